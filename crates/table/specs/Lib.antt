@@ -1,0 +1,2 @@
+-- What the engine's entry points promise.
+pub mod Post
