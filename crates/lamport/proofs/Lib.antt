@@ -5,3 +5,4 @@ pub mod Granted
 pub mod Starred
 pub mod Readings
 pub mod Numbers
+pub mod Arrivals

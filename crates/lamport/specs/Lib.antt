@@ -5,3 +5,4 @@ pub mod Table
 pub mod Steps
 pub mod Refusals
 pub mod Starred
+pub mod Arrivals

@@ -1,7 +1,7 @@
 -- The numbers for no, each given exactly when; and the table after a step, done or refused.
 use Prim.Native.Nat.{ℕ}
 use mathlib.Core.Bool.{Bool, true, false, cond, not, _&&_, _||_}
-use mathlib.Core.List.{List}
+use mathlib.Core.List.{List, [], _∷_}
 use lib.Dec.{ltb, leb, eqb}
 use lib.ListN.{length}
 use Rattle.lamport.specs.Each.{some-other}
@@ -99,3 +99,12 @@ answer s k =
 -- a refusal returns the table given
 unfoldable pub next : Table → Step → Table
 next s k = cond (eqb (answer s k) 0) (done s k) s
+
+-- the answers to a list of steps, and the table after it
+abbrev pub answers : Table → List Step → List ℕ
+answers s [] = []
+answers s (k ∷ ks) = answer s k ∷ answers (next s k) ks
+
+abbrev pub after : Table → List Step → Table
+after s [] = s
+after s (k ∷ ks) = after (next s k) ks

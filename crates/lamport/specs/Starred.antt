@@ -2,19 +2,10 @@
 use Prim.Native.Nat.{ℕ}
 use mathlib.Core.Path.{_≡_}
 use mathlib.Core.List.{List, [], _∷_}
-use Rattle.lamport.specs.Table.{Table, fresh, sizesAnswer}
-use Rattle.lamport.specs.Refusals.{answer, next}
+use Rattle.lamport.specs.Table.{fresh, sizesAnswer}
+use Rattle.lamport.specs.Refusals.{answers, after}
 use Rattle.lamport.specs.declared.Step.{Step}
 use Rattle.lamport.specs.declared.Step.the-variants.{Ask, Carry, Enter, Leave, Mark}
-
--- the answers to a list of steps, and the table after it
-abbrev pub answers : Table → List Step → List ℕ
-answers s [] = []
-answers s (k ∷ ks) = answer s k ∷ answers (next s k) ks
-
-abbrev pub after : Table → List Step → Table
-after s [] = s
-after s (k ∷ ks) = after (next s k) ks
 
 -- n, capacity, start; the answer to them; steps, their answers, and bench 0's clock at the end
 pub data Case : Type 0 where
