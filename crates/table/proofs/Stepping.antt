@@ -4,7 +4,6 @@ use native.Mathlib.Omega.{arith}
 use mathlib.Core.Path.{_≡_, refl, sym, ap, _∙_}
 use mathlib.Core.Bool.{Bool, true, false, cond}
 use mathlib.Core.List.{List}
-use native.Mathlib.Decide.{ℕ-discrete}
 use lib.Dec.{leb}
 use lib.ListN.{set, replicate, length-replicate, getD-replicate}
 use borrow.Author.Tests.{leb-true}
@@ -87,11 +86,3 @@ module _ (n k c : ℕ) (z : List ℕ) (zs : z ≡ replicate size 0) where
         done = λ f. let bad : true ≡ false = sym f ∙ e in cc;
         formed = λ f. let bad : true ≡ false = sym f ∙ e in cc;
       }
-
--- after a step, done or refused, the words are a table
-pub still : (t : List ℕ) (s : Step) (r : ℕ) (u : List ℕ) → wellFormed t ≡ true → Stepped t s r u → wellFormed u ≡ true
-still t s r u w m = go (ℕ-discrete r 0)
-  where
-    go : Dec (r ≡ 0) → wellFormed u ≡ true
-    go (yes z) = m .formed z
-    go (no nz) = ap wellFormed (m .untouched nz) ∙ w

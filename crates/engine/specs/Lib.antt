@@ -1,0 +1,2 @@
+-- The engine over a list of steps.
+pub mod Engine
