@@ -4,13 +4,13 @@ use native.Mathlib.Nat.{not-suc-le-zero, le-of-suc-le-suc, eq-or-lt-of-le}
 use native.Mathlib.Numerals.{add-one}
 use native.Mathlib.Omega.{arith}
 use mathlib.Core.Path.{_≡_, refl, sym, ap, subst, _∙_}
-use mathlib.Core.Bool.{Bool, true, false, not, _&&_, _||_}
+use mathlib.Core.Bool.{Bool, true, false, cond, not, _&&_, _||_}
 use mathlib.Core.Logic.{⊎-elim}
 use mathlib.Core.List.{List}
 use native.Mathlib.Decide.{ℕ-discrete}
 use borrow.Author.Tests.{eq-eqb, ne-eqb}
 use lib.Dec.{eqb}
-use Rattle.lamport.specs.Each.{some-below, all-below, some-other, every-other, up-to}
+use Rattle.lamport.specs.Each.{some-below, all-below, some-other, every-other, count-below, up-to}
 
 -- ---- tests joined by && and ||
 
@@ -117,6 +117,27 @@ module _ (f : ℕ → Bool) where
   unfolding all-below
   all-all zero h = refl
   all-all (suc n) h = rw (all-all n (λ i l. h i (omega arith))) (h n (omega arith))
+
+module _ (f : ℕ → Bool) where
+  pub count-none : count-below f 0 ≡ 0
+  unfolding count-below
+  count-none = refl
+
+  pub count-more : (i : ℕ) → count-below f (i + 1) ≡ count-below f i + cond (f i) 1 0
+  unfolding count-below
+  count-more i = rw add-one
+
+  pub count-end : (i n : ℕ) → i ≡ n → count-below f i ≡ count-below f n
+  count-end i n q = ap (count-below f) q
+
+  pub count-most : (n : ℕ) → count-below f n ≤ n
+  unfolding count-below
+  count-most zero = omega arith
+  count-most (suc n) = go (f n) (count-most n)
+    where
+      go : (b : Bool) → count-below f n ≤ n → count-below f n + cond b 1 0 ≤ suc n
+      go true h = omega arith
+      go false h = omega arith
 
 module _ (f : ℕ → List ℕ → List ℕ) where
   pub up-none : (t : List ℕ) → up-to f 0 t ≡ t

@@ -1,6 +1,6 @@
 -- Repetition over 0, 1, .. n - 1, in that order.
-use Prim.Native.Nat.{ℕ, zero, suc}
-use mathlib.Core.Bool.{Bool, true, false, not, _&&_, _||_}
+use Prim.Native.Nat.{ℕ, zero, suc, _+_}
+use mathlib.Core.Bool.{Bool, true, false, cond, not, _&&_, _||_}
 use mathlib.Core.List.{List}
 use lib.Dec.{eqb}
 
@@ -13,6 +13,11 @@ some-below f (suc n) = some-below f n || f n
 unfoldable pub all-below : (ℕ → Bool) → ℕ → Bool
 all-below f zero = true
 all-below f (suc n) = all-below f n && f n
+
+-- how many numbers below n f holds of
+unfoldable pub count-below : (ℕ → Bool) → ℕ → ℕ
+count-below f zero = 0
+count-below f (suc n) = count-below f n + cond (f n) 1 0
 
 -- f holds of some bench of n other than p
 abbrev pub some-other : ℕ → ℕ → (ℕ → Bool) → Bool

@@ -1,0 +1,68 @@
+use mathlib.Core.Path.{_≡_}
+use mathlib.Core.List.{List, [], _∷_, _++_}
+use Prim.Native.Nat.{ℕ}
+use native.Mathlib.Omega.{arith}
+use borrow.Author.Needs.{needs}
+use Rattle.listing.specs.Record.{tab, fields}
+use Rattle.listing.proofs.Laws.{fields-split, front-fits, Lent, lend}
+use Rattle.listing.proofs.put_four.Statement.{statement}
+use Rattle.listing.proofs.put_four.Tie as tie
+
+-- what is written first, and over the rest that it leaves
+module _ (s : tie.Start) where
+  abbrev w : List ℕ
+  w = fields (s .args .a ∷ s .args .b ∷ []) tab
+
+  abbrev v : List ℕ
+  v = fields (s .args .c ∷ s .args .d ∷ []) (s .args .end)
+
+  abbrev text : List ℕ
+  text = fields (s .args .a ∷ s .args .b ∷ s .args .c ∷ s .args .d ∷ []) (s .args .end)
+
+  splits : text ≡ w ++ v
+  splits = fields-split (s .args .a) (s .args .b ∷ []) (s .args .c) (s .args .d ∷ []) (s .args .end)
+
+put-two-requires : tie.Need-put-two-requires
+put-two-requires c κs = let s = c .before .before in front-fits (w s) (v s) _ (s .args .out .now) (splits s) (s .pre)
+
+lent : (c : tie.After-slice-known2) →
+    let s = c .before .before .before .before .before in
+    let k = c .before .before .put-two in Lent (w s) (v s) (text s) (s .args .out .now) (k .last .0) (k .result)
+lent c =
+    let s = c .before .before .before .before .before in
+    let k = c .before .before .put-two in
+    lend (w s) (v s) _ _ (splits s) (s .pre) _ _ (k .ensures)
+
+sub-put-two : tie.Need-sub-put-two
+sub-put-two c = lent c .starts
+
+part-put-two-start : tie.Need-part-put-two-start
+part-put-two-start c = lent c .starts
+
+part-put-two-end : tie.Need-part-put-two-end
+part-put-two-end c = search needs
+
+put-two-requires-2 : tie.Need-put-two-requires-2
+put-two-requires-2 c κs = lent (c .before) .room
+
+returns : tie.Need-returns
+returns c = let m = c .before .before .put-two2 in lent (c .before .before .before .before) .then _ _ (m .ensures)
+
+add-result : tie.Need-add-result
+add-result c = let r = returns c in omega (arith, r .bytes)
+
+same-length : tie.Need-same-length
+same-length c = search needs
+
+pub put-four-spec : {M : Type 1} → statement M
+put-four-spec =
+    tie.close
+    (tie.spec
+    put-two-requires
+    sub-put-two
+    part-put-two-start
+    part-put-two-end
+    put-two-requires-2
+    add-result
+    same-length
+    returns)

@@ -1,0 +1,2 @@
+-- What a line of the listing says of a step.
+pub mod Report
