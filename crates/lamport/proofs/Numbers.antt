@@ -1,7 +1,6 @@
 -- Each number for no is given when it applies and none before it does; 0 when none applies.
 use mathlib.Core.Path.{◌≡◌}
 use mathlib.Core.Bool.{true, false}
-use Prim.Native.Nat.{ℕ}
 use Rattle.lamport.specs.declared.Step.{Step}
 use Rattle.lamport.specs.Table.{Table}
 use Rattle.lamport.specs.Refusals.{outside, to_itself, not_admitted, nothing_there, not_yet, no_room, clock_spent, answer}

@@ -1,9 +1,9 @@
 -- Three orders of arrival in which a slip in a rule would break demand 3: what the rules give there.
-use Rattle.std.specs.Prelude.{ℕ, ◌≡◌, List, [], ◌∷◌}
+use Rattle.std.specs.Prelude.{◌≡◌, List, [], ◌∷◌}
 use Rattle.lamport.specs.Table.{Table, waiting, holding, fresh}
 use Rattle.lamport.specs.Refusals.{answer, after}
 use Rattle.lamport.specs.declared.Step.{Step}
-use Rattle.lamport.specs.declared.Step.TheVariants.{Ask, Carry, Enter, Leave, Mark}
+use Rattle.lamport.specs.declared.Step.TheVariants.{Ask, Carry, Enter, Leave}
 
 -- two benches, from fresh
 abbrev pub arrived : List Step → Table

@@ -1,5 +1,5 @@
 -- The rules that speak of numbers alone: the order of stamps, the clocks, the entry rule, the queue.
-use Rattle.std.specs.Prelude.{ℕ, ◌+◌, max, Bool, true, false, ◌&&◌, ◌||◌, ltb, eqb}
+use Rattle.std.specs.Prelude.{ℕ, ◌+◌, max, Bool, ◌&&◌, ◌||◌, ltb, eqb}
 use Rattle.lamport.specs.Each.{every_other}
 use Rattle.lamport.specs.declared.Kind.{Kind}
 use Rattle.lamport.specs.declared.Kind.TheVariants.{Request, Ack, Release}

@@ -1,4 +1,6 @@
 // The rules on plain numbers and rows, which need no table: stamps, clocks, the queue, the entry rule, the grid.
+#![tactic(auto)]
+
 ghost use Rattle.std.specs.Prelude.{◌≡◌, ℕ, ◌+◌, ◌<◌, ◌≤◌, max, length, get_or};
 ghost use Rattle.lamport.specs.Order.{before, ahead as ahead_of, own_first, late_enough, heard_all, entry_rule, lc1 as lc1_of, lc2 as lc2_of, clock_after, entry_after};
 ghost use Rattle.lamport.specs.Table.{within, sizes_ok};
@@ -6,21 +8,21 @@ ghost use Rattle.lamport.specs.Steps.{actor as actor_of, row_of, admitted};
 ghost use Rattle.lamport.specs.Refusals.{to_itself, is_request};
 
 // What a message says: a request, its acknowledgement, or the release of the clock.
-#[derive(Drop)]
+#[derive(Clone, Copy)]
 pub enum Kind {
     Request,
     Ack,
     Release,
 }
 
-#[derive(Drop)]
+#[derive(Clone, Copy)]
 pub struct Message {
     pub kind: Kind,
     pub stamp: u32,
 }
 
 // The five steps, with the numbers of their benches; a carry goes from the first to the second.
-#[derive(Drop)]
+#[derive(Clone, Copy)]
 pub enum Step {
     Ask(usize),
     Carry(usize, usize),

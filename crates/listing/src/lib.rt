@@ -1,4 +1,6 @@
 // The listing as text. Each writer puts its text over the front of `out`, answers how long the text is, and leaves the bytes after it.
+#![tactic(auto)]
+
 ghost use Rattle.std.specs.Prelude.{◌≤◌, [], ◌∷◌, length};
 ghost use Rattle.listing.specs.Write.{digits, Wrote};
 ghost use Rattle.listing.specs.Record.{cell_text, fields, record_text, word_line, end_text, refused_text};

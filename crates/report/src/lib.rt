@@ -1,4 +1,6 @@
 // What the listing says of a step: its bench with clock, phase and place, and who holds.
+#![tactic(auto)]
+
 ghost use Rattle.std.specs.Prelude.{◌≡◌, true, ◌<◌, ◌≤◌, length};
 ghost use Rattle.lamport.specs.Steps.{actor as actor_of};
 ghost use Rattle.words.specs.View.{view};

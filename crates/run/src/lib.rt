@@ -1,4 +1,6 @@
 // A run: reads a schedule of steps, takes them on a fresh table, and writes the listing into the output that is lent.
+#![tactic(auto)]
+
 ghost use Rattle.std.specs.Prelude.{◌≡◌, true, ◌≤◌, ◌<◌, ◌*◌, length, drop};
 ghost use Rattle.lamport.specs.Table.{sizes_ok, fresh as fresh_table};
 ghost use Rattle.words.specs.View.{view};

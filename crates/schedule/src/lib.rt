@@ -1,4 +1,6 @@
 // The schedule as text: its lines and their fields, what each line says, and whether the whole can be run.
+#![tactic(auto)]
+
 ghost use Rattle.std.specs.Prelude.{◌≡◌, ◌≤◌, ◌+◌, [], ◌∷◌, length, drop};
 ghost use Rattle.schedule.specs.Parts.{lf, tab, up_to, parts};
 ghost use Rattle.schedule.specs.Parts.{count as count_of, same as same_as};

@@ -1,4 +1,6 @@
 // Executes document 01's step cases, and steps on damaged tables, and prints each answer with a digest of the words after it.
+#![tactic(auto)]
+
 use lamport::Step;
 use libc::STDOUT_FILENO;
 use words::{

@@ -1,4 +1,6 @@
 // The changes that the five steps make, in place. Each asks for what the refusals have shown before.
+#![tactic(auto)]
+
 ghost use Rattle.std.specs.Prelude.{◌≡◌, ◌<◌, ◌≤◌};
 ghost use Rattle.lamport.specs.Each.{up_to};
 ghost use Rattle.lamport.specs.Order.{limit};

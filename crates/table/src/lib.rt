@@ -1,4 +1,6 @@
 // The engine: make a fresh table, and take a step on it, in the words that the caller lends.
+#![tactic(auto)]
+
 ghost use Rattle.std.specs.Prelude.{◌≡◌, true, ◌<◌, ◌≤◌, length};
 ghost use Rattle.lamport.specs.Refusals.{outside, not_admitted, nothing_there, may_enter, not_yet, full, any_full, no_room, clock_then, clock_spent, answer};
 ghost use Rattle.words.specs.View.{view};

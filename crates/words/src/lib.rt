@@ -1,4 +1,6 @@
 // A table of benches in 32-bit words that the caller lends: where each reading stands, and whether the words are well formed.
+#![tactic(auto)]
+
 ghost use Rattle.std.specs.Prelude.{◌≡◌, ◌&&◌, ◌+◌, ◌*◌, ◌<◌, ◌≤◌, eqb, length, get_or};
 ghost use Rattle.lamport.specs.Each.{all_below};
 ghost use Rattle.lamport.specs.Steps.{first};
