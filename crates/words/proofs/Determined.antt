@@ -1,24 +1,21 @@
 -- Well-formed words that read as the same table are the same words.
 use mathlib.Core.Path.{◌≡◌, refl, sym, ap, ◌∙◌}
-use mathlib.Core.Logic.{◌≢◌, ◌⊎◌, inl, inr}
-use mathlib.Core.Bool.{Bool, true, false}
-use mathlib.Core.List.{List, [], ◌∷◌}
+use mathlib.Core.Bool.{true}
+use mathlib.Core.List.{List}
 use Prim.Native.Nat.{ℕ, zero, suc, ◌+◌, ◌*◌, ◌-◌, ◌≤◌, ◌<◌, ◌/◌, ◌%◌}
 use native.Mathlib.Omega.{arith}
 use native.Mathlib.Decide.{dec_lt}
 use lib.ListN.{length, get_or}
 use lib.Seq.{ext_get_or}
-use Rattle.lamport.specs.declared.Kind.{Kind}
-use Rattle.lamport.specs.declared.Kind.TheVariants.{Request, Ack, Release}
 use Rattle.lamport.specs.declared.Message.{Message}
 use Rattle.lamport.specs.Table.{Table}
-use Rattle.words.specs.Places.{slot_words, channel_words, first_clock, first_phase, first_entry, first_heard, first_count, first_slot, size, clock_at, phase_at, entry_at, heard_at, chan, count_at, kind_at, stamp_at, benches, capacity, clock, phase, entry, heard, count, code_of, kind_of}
-use Rattle.words.specs.View.{listed, slot, channel, view}
+use Rattle.words.specs.Places.{slot_words, channel_words, first_clock, first_phase, first_entry, first_heard, first_count, first_slot, size, clock_at, phase_at, chan, count_at, kind_at, stamp_at, capacity, clock, phase, entry, heard, count, code_of, kind_of}
+use Rattle.words.specs.View.{slot, channel, view}
 use Rattle.words.specs.WellFormed.{well_formed}
 use Rattle.words.proofs.Listed.{nth, listed_nth}
 use Rattle.words.proofs.Reading.{view-clock, view-phase, view-entry, view-heard, view-messages, view-count}
-use Rattle.words.proofs.Shut.{word, size_of}
-use Rattle.words.proofs.Formed.{Slots, Wf, Sizes, test_length, test_sizes, test_wf}
+use Rattle.words.proofs.Shut.{word}
+use Rattle.words.proofs.Formed.{Slots, test_length, test_wf}
 
 code_kind : (x : ℕ) → x ≤ 2 → code_of (kind_of x) ≡ x
 code_kind zero h = refl

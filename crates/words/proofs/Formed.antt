@@ -1,14 +1,14 @@
 -- What the test of well-formed words says, as facts; and the test from the facts.
-use mathlib.Core.Path.{◌≡◌, refl, sym, ap, ◌∙◌}
+use mathlib.Core.Path.{◌≡◌, refl}
 use mathlib.Core.Logic.{◌≢◌, ◌⊎◌, inl, inr}
-use mathlib.Core.Bool.{Bool, true, false, cond, not, ◌&&◌, ◌||◌}
+use mathlib.Core.Bool.{true, false, cond, ◌&&◌, ◌||◌}
 use mathlib.Core.List.{List}
-use Prim.Native.Nat.{ℕ, zero, suc, ◌+◌, ◌*◌, ◌≤◌, ◌<◌}
+use Prim.Native.Nat.{ℕ, ◌≤◌, ◌<◌}
 use native.Mathlib.Omega.{arith}
 use native.Mathlib.Decide.{ℕ_discrete, dec_lt}
 use lib.Dec.{ltb, leb, eqb}
-use lib.ListN.{length, get_or}
-use borrow.Author.Tests.{eq-eqb, ne_eqb, lt-ltb, le-ltb, le-leb, eqb-true, eqb-false, leb-true, ltb-true}
+use lib.ListN.{length}
+use borrow.Author.Tests.{eq-eqb, ne_eqb, lt-ltb, le-ltb, le-leb, eqb-true, leb-true}
 use Rattle.lamport.specs.Each.{all_below}
 use Rattle.lamport.specs.Table.{sizes_ok, within}
 use Rattle.lamport.proofs.Each.{and_left, and_right, and_in, and_false, or_in, or_out, all_at, all_all}

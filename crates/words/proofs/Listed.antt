@@ -1,10 +1,10 @@
 -- Laws of a list that is given by its elements.
-use Prim.Native.Nat.{ℕ, zero, suc, ◌+◌, ◌<◌, ◌≤◌}
+use Prim.Native.Nat.{ℕ, zero, suc, ◌<◌}
 use native.Mathlib.Omega.{arith}
-use mathlib.Core.Path.{◌≡◌, refl, sym, ap, ◌∙◌}
+use mathlib.Core.Path.{◌≡◌, refl, ap, ◌∙◌}
 use mathlib.Core.List.{List, [], ◌∷◌, ◌++◌}
 use lib.ListN.{length, length-append}
-use Rattle.lamport.specs.Steps.{first, rest}
+use Rattle.lamport.specs.Steps.{first}
 use Rattle.lamport.specs.declared.Message.{Message}
 use Rattle.words.specs.View.{listed}
 

@@ -1,16 +1,14 @@
 -- What a view reads, at bench numbers.
-use Prim.Native.Nat.{ℕ, ◌+◌, ◌*◌, ◌-◌, ◌<◌, ◌≤◌}
+use Prim.Native.Nat.{ℕ, ◌+◌, ◌-◌, ◌<◌, ◌≤◌}
 use native.Mathlib.Omega.{arith}
 use mathlib.Core.Path.{◌≡◌, refl, sym, ap, ◌∙◌}
-use mathlib.Core.Bool.{Bool, true, false}
-use mathlib.Core.List.{List, [], ◌∷◌, ◌++◌}
+use mathlib.Core.List.{List}
 use borrow.Author.Tests.{lt-ltb}
-use lib.Dec.{ltb}
 use lib.ListN.{length, get_or, take, drop, length-take, length-drop}
 use lib.Seq.{get_or-drop, get_or-take}
 use Rattle.lamport.specs.Steps.{first}
 use Rattle.words.specs.Places.{chan, benches, capacity, clock, phase, entry, heard, count}
-use Rattle.words.specs.View.{listed, slot, channel, two, view, Row}
+use Rattle.words.specs.View.{slot, channel, view, Row}
 use Rattle.words.proofs.Listed.{listed-length, listed-first}
 
 module _ (t : List ℕ) where
