@@ -2,7 +2,7 @@
 -- And what the step that takes one says: p is the sender, q the receiver, no other bench takes one, and nobody's request changes.
 use mathlib.Core.Path.{◌≡◌, refl, sym, ap, ◌∙◌, subst}
 use mathlib.Core.Logic.{◌≢◌, ◌⊎◌, inl, inr}
-use mathlib.Core.Bool.{Bool, true, false, cond, ◌&&◌, false≢true, and_false as none-and, and-true}
+use mathlib.Core.Bool.{Bool, true, false, cond, ◌&&◌, false≢true, and-false as none-and, and-true}
 use mathlib.Core.List.{List}
 use Prim.Native.Nat.{ℕ, ◌+◌, ◌<◌}
 use native.Mathlib.Omega.{arith}

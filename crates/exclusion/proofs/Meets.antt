@@ -1,10 +1,8 @@
 -- Meets: the rules' tables after a step, read at every place; so every step of the rules is one of `Moves`.
 use mathlib.Core.Path.{◌≡◌, refl, sym, ap, ◌∙◌, subst}
-use mathlib.Core.Logic.{◌≢◌}
 use mathlib.Core.Bool.{Bool, true, false, cond}
 use mathlib.Core.List.{List, [], ◌∷◌, ◌++◌}
 use Prim.Native.Nat.{ℕ, ◌≤◌}
-use native.Mathlib.Decide.{ℕ_discrete}
 use lib.Dec.{leb, eqb}
 use lib.ListN.{length}
 use borrow.Author.Tests.{eq-eqb, ne_eqb, lt-ltb, eqb-true, eqb-false, leb-false, not-false}
@@ -13,11 +11,11 @@ use Rattle.lamport.specs.declared.Step.{Step}
 use Rattle.lamport.specs.declared.Step.TheVariants.{Ask, Carry, Enter, Leave, Mark}
 use Rattle.lamport.specs.Order.{limit, lc1, clock_after, ahead, own_first, late_enough, heard_all, entry_rule}
 use Rattle.lamport.specs.Table.{Table, idle, waiting, holding}
-use Rattle.lamport.specs.Steps.{first, rest, at1, at2, acts, takes, replies, done}
+use Rattle.lamport.specs.Steps.{first, rest, at2, acts, takes, replies, done}
 use Rattle.lamport.specs.Refusals.{may_enter, answer, next}
-use Rattle.lamport.proofs.Each.{and_left, and_right, and_false, or_out, or_false_left, or_false_right, other_at}
+use Rattle.lamport.proofs.Each.{and_left, and_right, or_out, or_false_left, or_false_right, other_at}
 use Rattle.lamport.proofs.Granted.{Granted, granted, next-done}
-use Rattle.lamport.proofs.Readings.{Other, at1-here, at1-else, at2-here, at2-else}
+use Rattle.lamport.proofs.Readings.{at1-here, at1-else, at2-here, at2-else}
 use Rattle.exclusion.specs.Demand.{is_done}
 use Rattle.exclusion.proofs.Enough.{enough-heard}
 use Rattle.exclusion.proofs.Effects.{Two, Acts, Carries}
