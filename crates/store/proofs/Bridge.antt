@@ -1,22 +1,21 @@
 -- Stores become changes of the view: a law for each.
-use mathlib.Core.Path.{◌≡◌, refl, sym, ap, ◌∙◌, fun_ext}
-use mathlib.Core.Logic.{◌≢◌, inl, inr}
-use mathlib.Core.Bool.{Bool, true, false, cond}
+use mathlib.Core.Path.{◌≡◌, refl, sym, ◌∙◌, fun_ext}
+use mathlib.Core.Logic.{◌≢◌, inl}
+use mathlib.Core.Bool.{false, cond}
 use mathlib.Core.List.{List, [], ◌∷◌, ◌++◌}
-use Prim.Native.Nat.{ℕ, zero, suc, ◌+◌, ◌*◌, ◌-◌, ◌≤◌, ◌<◌}
+use Prim.Native.Nat.{ℕ, ◌≤◌, ◌<◌}
 use native.Mathlib.Omega.{arith}
 use native.Mathlib.Decide.{ℕ_discrete, dec_lt}
 use borrow.Author.Tests.{lt-ltb, le-ltb, eq-eqb, ne_eqb}
-use lib.Dec.{ltb, eqb}
-use lib.ListN.{length, get_or, set}
+use lib.Dec.{ltb}
 use Rattle.lamport.specs.declared.Message.{Message}
 use Rattle.lamport.specs.Table.{Table}
 use Rattle.lamport.specs.Steps.{at1, at2, rest}
 use Rattle.lamport.proofs.Each.{and_false}
-use Rattle.lamport.proofs.Readings.{Other, at2-here, at2-else}
-use Rattle.words.specs.Places.{first_count, size, clock_at, phase_at, entry_at, heard_at, chan, count_at, kind_at, stamp_at, clock, phase, entry, heard}
+use Rattle.lamport.proofs.Readings.{Other, at2-else}
+use Rattle.words.specs.Places.{first_count, size, clock_at, phase_at, entry_at, heard_at, chan, count_at, clock, phase, entry, heard}
 use Rattle.words.specs.View.{channel, two, view}
-use Rattle.words.proofs.Shut.{word, put, size_of, on, off, len}
+use Rattle.words.proofs.Shut.{word, put, size_of, on, off}
 use Rattle.words.proofs.Reading.{view-messages}
 use Rattle.store.specs.Stores.{pushed, popped}
 use Rattle.store.proofs.Laws.{channel-frame, push_off, push_here, push_else, pop_off, pop_here, pop_else}

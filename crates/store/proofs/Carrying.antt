@@ -1,13 +1,12 @@
 -- Laws of a carry.
-use Prim.Native.Nat.{ℕ, zero, suc, ◌+◌, ◌*◌, ◌<◌, ◌≤◌, max}
+use Prim.Native.Nat.{ℕ, zero, suc, ◌<◌, ◌≤◌}
 use native.Mathlib.Omega.{arith}
 use mathlib.Core.Path.{◌≡◌, refl, sym, ap, ◌∙◌}
-use mathlib.Core.Bool.{Bool, true, false}
 use mathlib.Core.List.{List}
-use lib.ListN.{length, get_or, set}
+use lib.ListN.{get_or}
 use lib.Seq.{get_or-set_other}
 use Rattle.lamport.specs.declared.Kind.{Kind}
-use Rattle.lamport.specs.declared.Kind.TheVariants.{Request, Ack, Release}
+use Rattle.lamport.specs.declared.Kind.TheVariants.{Request}
 use Rattle.lamport.specs.declared.Message.{Message}
 use Rattle.lamport.specs.Each.{up_to}
 use Rattle.lamport.specs.Order.{limit, clock_after}

@@ -1,15 +1,14 @@
 -- Each store keeps the words well formed.
-use mathlib.Core.Path.{◌≡◌, refl, sym, ap, ◌∙◌}
+use mathlib.Core.Path.{◌≡◌, ◌∙◌}
 use mathlib.Core.Logic.{◌≢◌, ◌⊎◌, inl, inr}
-use mathlib.Core.Bool.{Bool, true, false}
-use mathlib.Core.List.{List, [], ◌∷◌, ◌++◌}
-use Prim.Native.Nat.{ℕ, zero, suc, ◌+◌, ◌*◌, ◌-◌, ◌≤◌, ◌<◌, max}
+use mathlib.Core.List.{List}
+use Prim.Native.Nat.{ℕ, ◌+◌, ◌*◌, ◌-◌, ◌≤◌, ◌<◌}
 use native.Mathlib.Omega.{arith}
 use native.Mathlib.Decide.{ℕ_discrete, dec_lt}
 use Rattle.lamport.specs.declared.Kind.{Kind}
 use Rattle.lamport.specs.declared.Kind.TheVariants.{Request, Ack, Release}
 use Rattle.lamport.specs.declared.Message.{Message}
-use Rattle.words.specs.Places.{channel_words, first_count, first_slot, size, clock_at, phase_at, entry_at, heard_at, chan, count_at, kind_at, stamp_at, code_of}
+use Rattle.words.specs.Places.{channel_words, first_count, first_slot, clock_at, phase_at, entry_at, heard_at, chan, count_at, kind_at, stamp_at, code_of}
 use Rattle.words.proofs.Shut.{word, put, size_of, on, off, len}
 use Rattle.words.proofs.Formed.{Slots, Apart, Wf}
 use Rattle.store.specs.Stores.{pushed, popped}

@@ -1,19 +1,17 @@
 -- Reading laws: what each store leaves at each place.
-use mathlib.Core.Path.{◌≡◌, refl, sym, ap, ◌∙◌}
+use mathlib.Core.Path.{◌≡◌, refl, ap, ◌∙◌}
 use mathlib.Core.Logic.{◌≢◌, ◌⊎◌, inl, inr}
-use mathlib.Core.Bool.{Bool, true, false}
 use mathlib.Core.List.{List, [], ◌∷◌, ◌++◌}
 use Prim.Native.Nat.{ℕ, zero, suc, ◌+◌, ◌*◌, ◌-◌, ◌≤◌, ◌<◌}
 use native.Mathlib.Omega.{arith}
 use native.Mathlib.Numerals.{add-one}
 use native.Mathlib.Decide.{ℕ_discrete, dec_lt}
-use lib.ListN.{length, get_or, set}
 use Rattle.lamport.specs.declared.Kind.{Kind}
 use Rattle.lamport.specs.declared.Kind.TheVariants.{Request, Ack, Release}
 use Rattle.lamport.specs.declared.Message.{Message}
 use Rattle.lamport.specs.Each.{up_to}
 use Rattle.lamport.specs.Steps.{rest}
-use Rattle.words.specs.Places.{channel_words, first_slot, size, chan, count_at, kind_at, stamp_at, count, code_of, kind_of}
+use Rattle.words.specs.Places.{channel_words, first_slot, size, count_at, kind_at, stamp_at, count, code_of, kind_of}
 use Rattle.words.specs.View.{listed, slot, channel}
 use Rattle.words.proofs.Shut.{word, put, size_of, on, off, len}
 use Rattle.words.proofs.Listed.{listed_same, listed_cons}

@@ -1,22 +1,21 @@
 -- A fresh table's words: their view, and that they are well formed.
-use mathlib.Core.Path.{◌≡◌, refl, sym, ap, ◌∙◌}
-use mathlib.Core.Logic.{◌≢◌, ◌⊎◌, inl, inr}
+use mathlib.Core.Path.{◌≡◌, refl, ap, ◌∙◌}
+use mathlib.Core.Logic.{◌⊎◌, inl, inr}
 use mathlib.Core.Bool.{true, cond}
-use mathlib.Core.List.{List, [], ◌∷◌, ◌++◌}
-use Prim.Native.Nat.{ℕ, zero, suc, ◌+◌, ◌*◌, ◌-◌, ◌≤◌, ◌<◌}
+use mathlib.Core.List.{List, []}
+use Prim.Native.Nat.{ℕ, zero, suc, ◌+◌, ◌≤◌, ◌<◌}
 use native.Mathlib.Omega.{arith}
 use native.Mathlib.Decide.{ℕ_discrete, dec_lt}
 use borrow.Author.Tests.{lt-ltb, le-ltb}
 use lib.Dec.{ltb}
-use lib.ListN.{get_or, set}
 use Rattle.lamport.specs.Each.{up_to}
-use Rattle.lamport.specs.Table.{Table, fresh}
+use Rattle.lamport.specs.Table.{fresh}
 use Rattle.lamport.proofs.Readings.{cond_same}
-use Rattle.words.specs.Places.{size, benches, capacity, clock_at, phase_at, entry_at, heard_at, chan, count_at, kind_at, stamp_at, clock, phase, entry, heard, count}
+use Rattle.words.specs.Places.{size, clock_at, phase_at, entry_at, heard_at, chan, count_at, kind_at, stamp_at, clock, phase, entry, heard}
 use Rattle.words.specs.View.{listed, slot, channel, two, view}
 use Rattle.words.specs.WellFormed.{well_formed}
 use Rattle.words.proofs.Shut.{word, put, size_of, on, off, len}
-use Rattle.words.proofs.Formed.{Slots, Apart, Wf, Sizes, wf-test}
+use Rattle.words.proofs.Formed.{Wf, wf-test}
 use Rattle.store.specs.Stores.{started}
 use Rattle.store.proofs.Bridge.{table-ext}
 

@@ -1,30 +1,28 @@
 -- Each step's stores are the rules' change of the view, and keep the words well formed.
 use mathlib.Core.Path.{◌≡◌, refl, sym, ap, ◌∙◌, fun_ext}
-use mathlib.Core.Logic.{◌≢◌, ◌⊎◌, inl, inr}
-use mathlib.Core.Bool.{Bool, true, false, cond, not, ◌&&◌}
+use mathlib.Core.Logic.{◌≢◌, inl}
+use mathlib.Core.Bool.{false, cond, not, ◌&&◌}
 use mathlib.Core.List.{List, [], ◌∷◌, ◌++◌}
-use Prim.Native.Nat.{ℕ, zero, suc, ◌+◌, ◌*◌, ◌-◌, ◌≤◌, ◌<◌, max}
+use Prim.Native.Nat.{ℕ, zero, suc, ◌+◌, ◌≤◌, ◌<◌, max}
 use native.Mathlib.Omega.{arith}
 use native.Mathlib.Decide.{ℕ_discrete, dec_lt}
 use borrow.Author.Tests.{lt-ltb, le-ltb, eq-eqb, ne_eqb}
 use lib.Dec.{ltb, eqb}
-use lib.ListN.{length, get_or, set}
 use Rattle.lamport.specs.declared.Kind.{Kind}
 use Rattle.lamport.specs.declared.Kind.TheVariants.{Request, Ack, Release}
 use Rattle.lamport.specs.declared.Message.{Message}
-use Rattle.lamport.specs.declared.Step.TheVariants.{Ask, Carry, Enter, Leave, Mark}
 use Rattle.lamport.specs.Each.{up_to}
 use Rattle.lamport.specs.Order.{clock_after, entry_after}
 use Rattle.lamport.specs.Table.{Table}
-use Rattle.lamport.specs.Steps.{at1, at2, sends, first, rest, acts, takes, done, replies}
+use Rattle.lamport.specs.Steps.{at2, sends, rest, acts, takes, replies}
 use Rattle.lamport.proofs.Each.{and_false}
 use Rattle.lamport.proofs.Readings.{cond_same, at1-same, at2-else, at2-same}
-use Rattle.words.specs.Places.{size, benches, capacity, clock_at, phase_at, entry_at, heard_at, chan, count_at, clock, entry, heard}
+use Rattle.words.specs.Places.{benches, capacity, clock_at, phase_at, entry_at, heard_at, chan, count_at, clock, entry}
 use Rattle.words.specs.View.{view}
-use Rattle.words.proofs.Shut.{word, put, size_of, on, off, len}
-use Rattle.words.proofs.Formed.{Slots, Apart, Wf}
+use Rattle.words.proofs.Shut.{word, put, off, len}
+use Rattle.words.proofs.Formed.{Wf}
 use Rattle.words.proofs.Reading.{view-clock, view-entry, view-heard}
-use Rattle.store.specs.Stores.{pushed, sent_to, sent, popped, acted, asked, left, entered, marked, received, replied, carried}
+use Rattle.store.specs.Stores.{pushed, sent_to, sent, popped, acted, entered, marked, received, replied, carried}
 use Rattle.store.proofs.Laws.{pop_off, pop_length, push_off}
 use Rattle.store.proofs.Bridge.{ext2, fields, with_clock, with_phase, with_entry, with_heard, with_messages, put-clock, put-phase, put-entry, put-heard, view-pushed, view-popped}
 use Rattle.store.proofs.Keeps.{push_wf, pop_wf, clock-wf, own-wf, entry-wf, heard-wf}

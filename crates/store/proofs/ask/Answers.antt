@@ -1,0 +1,10 @@
+use Rattle.store.specs.Stores.{asked}
+use Rattle.store.proofs.Frame.{room-acted}
+use Rattle.store.proofs.ask.Goals as goal
+
+pub broadcast-requires : goal.broadcast-requires
+broadcast-requires c = rw c.act.ensures (room-acted _ _ _ _ c.requires.room)
+
+pub returns : goal.returns
+unfolding asked
+returns c = rw (← c.act.ensures) c.broadcast.ensures
