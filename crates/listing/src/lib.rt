@@ -21,7 +21,7 @@ pub fn put_number(out: &mut [u8], x: usize) -> usize
 }
 
 // What a field of the listing holds: a number, or nothing, which is written `-`.
-#[derive(Drop)]
+#[derive(Clone, Copy)]
 pub enum Cell {
     Number(usize),
     Dash,
@@ -78,7 +78,7 @@ fn put_four(out: &mut [u8], a: Cell, b: Cell, c: Cell, d: Cell, end: u8) -> usiz
 // ---- lines
 
 // One line of the listing: the step's number from 1 and its answer, the bench with its clock, phase and place after the step, the holder.
-#[derive(Drop)]
+#[derive(Clone, Copy)]
 pub struct Record {
     pub step: usize,
     pub answer: usize,
@@ -108,12 +108,21 @@ pub fn put_record(out: &mut [u8], r: Record) -> usize
     at + put_four(&mut out[at..], clock, phase, place, holder, b'\n')
 }
 
+// A word, copied.
+fn put_word(out: &mut [u8], word: &[u8]) -> usize
+    requires { length word.now ≤ length out.old }
+    ensures { Wrote word.now result out.old out.new }
+{
+    out[..word.len()].copy_from_slice(word);
+    word.len()
+}
+
 // A word, its tab behind it, and two numbers.
 fn put_line(out: &mut [u8], word: &[u8], a: usize, b: usize) -> usize
     requires { length (word_line word.now a b) ≤ length out.old }
     ensures { Wrote (word_line word.now a b) result out.old out.new }
 {
-    let at = bytes::copy(word, out);
+    let at = put_word(out, word);
     at + put_two(&mut out[at..], Cell::Number(a), Cell::Number(b), b'\n')
 }
 
