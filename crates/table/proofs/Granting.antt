@@ -1,5 +1,5 @@
 -- What follows from words that are well formed, and from an answer of 0: the step's stores are the rules' change of the view.
-use Prim.Native.Nat.{ℕ, zero, suc, ◌+◌, ◌*◌, ◌<◌, ◌≤◌}
+use Prim.Native.Nat.{ℕ, ◌+◌, ◌<◌, ◌≤◌}
 use native.Mathlib.Omega.{arith}
 use mathlib.Core.Path.{◌≡◌, refl, sym, ap, ◌∙◌}
 use mathlib.Core.Logic.{◌≢◌}
@@ -9,23 +9,22 @@ use borrow.Author.Tests.{leb-false, eqb-true, eqb-false}
 use lib.Dec.{leb, eqb}
 use lib.ListN.{length}
 use Rattle.lamport.specs.declared.Kind.{Kind}
-use Rattle.lamport.specs.declared.Kind.TheVariants.{Request, Ack, Release}
-use Rattle.lamport.specs.declared.Message.{Message}
+use Rattle.lamport.specs.declared.Kind.TheVariants.{Request, Release}
 use Rattle.lamport.specs.declared.Step.{Step}
 use Rattle.lamport.specs.declared.Step.TheVariants.{Ask, Carry, Enter, Leave, Mark}
-use Rattle.lamport.specs.Order.{limit, lc1}
-use Rattle.lamport.specs.Table.{Table, idle, waiting}
-use Rattle.lamport.specs.Steps.{actor, first, rest, acts, takes, done}
+use Rattle.lamport.specs.Order.{limit}
+use Rattle.lamport.specs.Table.{Table}
+use Rattle.lamport.specs.Steps.{actor, first, done}
 use Rattle.lamport.specs.Refusals.{outside, full, any_full, is_request, no_room}
 use Rattle.lamport.proofs.Granted.{Granted, done-sizes}
 use Rattle.lamport.proofs.Each.{and_out, or_false_left, or_false_right, no-other_at}
-use Rattle.words.specs.Places.{benches, capacity, clock, phase, count, chan}
+use Rattle.words.specs.Places.{benches, capacity, clock, count, chan}
 use Rattle.words.specs.View.{view}
 use Rattle.words.specs.WellFormed.{well_formed}
 use Rattle.words.proofs.Shut.{word}
 use Rattle.words.proofs.Reading.{view-benches, view-clock, view-phase, view-count}
 use Rattle.words.proofs.Formed.{Wf, Sizes, test_sizes, test_wf, wf-test, few}
-use Rattle.store.specs.Stores.{Room, Carries, asked, left, entered, marked, carried}
+use Rattle.store.specs.Stores.{Room, Carries, asked, left}
 use Rattle.store.proofs.Steps.{told_wf, told_view, entered-wf, entered-view, marked-wf, marked-view, carried-wf, carried-view}
 use Rattle.table.specs.Post.{stored}
 

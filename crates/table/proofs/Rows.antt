@@ -2,7 +2,6 @@
 use Prim.Native.Nat.{ℕ, ◌<◌, ◌≤◌}
 use native.Mathlib.Omega.{arith}
 use mathlib.Core.Path.{◌≡◌}
-use mathlib.Core.Bool.{Bool, ◌&&◌}
 use mathlib.Core.List.{List}
 use lib.ListN.{get_or}
 use Rattle.lamport.specs.Order.{ahead, late_enough, own_first, heard_all, entry_rule}

@@ -1,5 +1,5 @@
 -- The three ways out of a step, and the two out of a fresh table, as the promises' records.
-use Prim.Native.Nat.{ℕ, ◌+◌, ◌<◌, ◌≤◌}
+use Prim.Native.Nat.{ℕ, ◌<◌, ◌≤◌}
 use native.Mathlib.Omega.{arith}
 use mathlib.Core.Path.{◌≡◌, refl, sym, ap, ◌∙◌}
 use mathlib.Core.Bool.{Bool, true, false, cond}
@@ -9,7 +9,7 @@ use lib.ListN.{set, replicate, length-replicate, get_or-replicate}
 use borrow.Author.Tests.{leb-true}
 use Rattle.lamport.specs.declared.Step.{Step}
 use Rattle.lamport.specs.Each.{up_to}
-use Rattle.lamport.specs.Table.{within, sizes_ok, sizes_answer}
+use Rattle.lamport.specs.Table.{within, sizes_ok}
 use Rattle.lamport.specs.Refusals.{answer}
 use Rattle.lamport.proofs.Each.{and_left, and_right}
 use Rattle.words.specs.Places.{size}

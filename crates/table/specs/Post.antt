@@ -1,6 +1,6 @@
 -- What the engine's entry points promise, of the words at entry and at exit.
 use Rattle.std.specs.Prelude.{ℕ, ◌≡◌, true, false, cond, List, replicate}
-use Rattle.lamport.specs.Table.{Table, sizes_ok, sizes_answer, fresh}
+use Rattle.lamport.specs.Table.{sizes_ok, sizes_answer, fresh}
 use Rattle.lamport.specs.Steps.{first}
 use Rattle.lamport.specs.Refusals.{outside, nothing_there, answer, next}
 use Rattle.lamport.specs.declared.Step.{Step}
