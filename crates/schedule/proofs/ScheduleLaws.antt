@@ -34,6 +34,19 @@ no_header (L.Header n capacity start) ls h = absurd (miss (1 ∷ 2 ∷ []) 0 tt 
 no_header (L.Step x) ls h = refl
 no_header L.Bad ls h = refl
 
+-- the same, as what the line is not
+pub unlike_step : {A : Type 0} (l : Line) (f : Step → A) (other : A) → ((x : Step) → l ≡ L.Step x → ⊥) → if_step l f other ≡ other
+unfolding if_step
+unlike_step (L.Header n capacity start) f other h = refl
+unlike_step (L.Step x) f other h = absurd (h x refl)
+unlike_step L.Bad f other h = refl
+
+pub unlike_header : (l : Line) (ls : List (List ℕ)) → ((n capacity start : ℕ) → l ≡ L.Header n capacity start → ⊥) → check_header l ls ≡ Refused 10 1
+unfolding check_header
+unlike_header (L.Header n capacity start) ls h = absurd (h n capacity start refl)
+unlike_header (L.Step x) ls h = refl
+unlike_header L.Bad ls h = refl
+
 -- there is always a part to come
 more : (s : List ℕ) → 0 < length (parts lf s)
 more s = omega (arith, parts-count lf s)

@@ -77,13 +77,14 @@ fn same(a: &[u8], b: &[u8]) -> bool
 
 // ---- numbers
 
-#[derive(Drop)]
+#[derive(Clone, Copy)]
 pub enum Number {
     Is(u32),
     Bad,
 }
 
 // x with the digit b behind it, where it is one and the number still fits.
+#[tactic(auto, unfolding(crate::specs::Number::digit_on))]
 fn digit_on(x: u32, b: u8) -> Number
     ensures { result ≡ digit_on (Number.Is x) b }
 {
@@ -126,7 +127,7 @@ pub fn number_of(field: &[u8]) -> Number
 // ---- lines
 
 // What a line of the schedule says: the header's n, capacity and start clock, or a step.
-#[derive(Drop)]
+#[derive(Clone, Copy)]
 pub enum Line {
     Header(u32, u32, u32),
     Step(Step),
@@ -228,7 +229,7 @@ pub fn line_of(line: &[u8]) -> Line
 // ---- the schedule
 
 // What is found of a schedule before its first step: its sizes and start clock, or the number for no and the line.
-#[derive(Drop)]
+#[derive(Clone, Copy)]
 pub enum Checked {
     Good(u32, u32, u32),
     Refused(u32, usize),
