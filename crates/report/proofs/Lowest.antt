@@ -1,15 +1,13 @@
 -- The lowest bench that holds, as a loop from 0 up finds it.
-use Prim.Native.Nat.{ℕ, zero, suc, ◌+◌, ◌<◌, ◌≤◌}
+use Prim.Native.Nat.{ℕ, zero, suc, ◌+◌, ◌<◌}
 use native.Mathlib.Nat.{not-suc-le-zero, le_of_suc-le-suc, eq-or-lt_of_le}
 use native.Mathlib.Numerals.{add-one}
 use mathlib.Core.Path.{◌≡◌, refl, sym, ap, ◌∙◌, subst}
-use mathlib.Core.Bool.{cond}
 use mathlib.Core.Logic.{◌≢◌, ⊎_elim}
 use borrow.Author.Tests.{eq-eqb, ne_eqb}
 use Rattle.lamport.specs.Table.{Table, holding}
-use Rattle.listing.specs.declared.Cell.{Cell}
 use Rattle.listing.specs.declared.Cell.TheVariants.{Number, Dash}
-use Rattle.report.specs.Report.{or_else, holder_below}
+use Rattle.report.specs.Report.{holder_below}
 
 module _ (s : Table) where
   pub none_yet : holder_below s 0 ≡ Dash

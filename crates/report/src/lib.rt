@@ -70,10 +70,10 @@ fn holder(t: &[u32; WORDS]) -> Cell
 
 // The line for the k-th step, s, answered `no`, from the table after it.
 pub fn record_of(t: &[u32; WORDS], k: usize, no: u32, s: Step) -> Record
-    requires t_value { well_formed t.now ≡ true }
-    requires s_bound { (no ≡ 2 → ⊥) → actor_of s < (view t.now).benches }
+    requires t_bound { (view t.now).benches ≤ 8 }
+    requires s_bound { (no ≡ 2 → ⊥) → actor_of s < 8 }
     ensures exact { result ≡ record_of k no s (view t.now) }
-    ensures short { k < 100000 → no < 10 → length (record_text result) ≤ 32 }
+    ensures short { well_formed t.now ≡ true → ((no ≡ 2 → ⊥) → actor_of s < (view t.now).benches) → k < 100000 → no < 10 → length (record_text result) ≤ 32 }
 {
     let holder = holder(t);
     if no == 2 {
