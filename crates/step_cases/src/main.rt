@@ -2,19 +2,19 @@
 #![tactic(auto)]
 
 use lamport::Step;
-use libc::STDOUT_FILENO;
+use std::io;
 use words::{
     CAPACITY, CHANNEL, CLOCKS, COUNTS, ENTRIES, HEARD, KINDS, MOST, PHASES, SLOT, STAMPS, WORDS,
 };
 
 const LIMIT: u32 = 4294967295;
 
-fn say(text: &[u8]) {
-    io::write_all(STDOUT_FILENO, text);
+fn say(rt: &impl Print, text: &str) -> io::Result<()> {
+    print!(rt; "{text}")
 }
 
-fn say_number(x: u32) {
-    io::print_decimal(STDOUT_FILENO, x as u64);
+fn say_number(rt: &impl Print, x: u32) -> io::Result<()> {
+    print!(rt; "{x}")
 }
 
 // A step from three words: kind 0 to 4 (ask, carry, enter, leave, mark), bench, second bench.
@@ -45,101 +45,127 @@ fn digest(t: &[u32; WORDS]) -> u64 {
     d
 }
 
-fn say_digest(t: &[u32; WORDS]) {
-    say(b"  words ");
-    io::print_decimal(STDOUT_FILENO, digest(t));
-    say(b"\n");
+fn say_digest(rt: &impl Print, t: &[u32; WORDS]) -> io::Result<()> {
+    say(rt, "  words ")?;
+    let d = digest(t);
+    print!(rt; "{d}")?;
+    say(rt, "\n")
 }
 
 // ---- cases from a fresh table
 
 // Takes the steps, three words each, and says each answer.
-fn take(t: &mut [u32; WORDS], steps: &[u32]) {
+fn take(rt: &impl Print, t: &mut [u32; WORDS], steps: &[u32]) -> io::Result<()> {
     let mut i: usize = 0;
     while i + 2 < steps.len() {
-        say(b" ");
-        say_number(table::step(t, step_of(steps[i], steps[i + 1], steps[i + 2])));
+        say(rt, " ")?;
+        say_number(
+            rt,
+            table::step(t, step_of(steps[i], steps[i + 1], steps[i + 2])),
+        )?;
         i += 3;
     }
+    Ok(())
 }
 
 // The answer to the sizes, the answers to the steps, bench 0's clock and the digest.
-fn case(name: &[u8], n: u32, capacity: u32, start: u32, steps: &[u32]) {
+fn case(
+    rt: &impl Print,
+    name: &str,
+    n: u32,
+    capacity: u32,
+    start: u32,
+    steps: &[u32],
+) -> io::Result<()> {
     let mut t = [1u32; WORDS];
-    say(name);
-    say(b": ");
-    say_number(table::fresh(&mut t, n, capacity, start));
-    take(&mut t, steps);
-    say(b"  clock ");
-    say_number(t[CLOCKS]);
-    say_digest(&t);
+    say(rt, name)?;
+    say(rt, ": ")?;
+    say_number(rt, table::fresh(&mut t, n, capacity, start))?;
+    take(rt, &mut t, steps)?;
+    say(rt, "  clock ")?;
+    say_number(rt, t[CLOCKS])?;
+    say_digest(rt, &t)
 }
 
-fn sizes() {
-    case(b"n = 0", 0, 4, 0, &[4, 0, 0]);
-    case(b"n = 9", 9, 4, 0, &[4, 0, 0]);
-    case(b"n = 8, capacity 16", 8, 16, 0, &[4, 7, 0]);
-    case(b"n = 8, capacity 16, mark 8", 8, 16, 0, &[4, 8, 0]);
-    case(b"capacity 17", 2, 17, 0, &[4, 0, 0]);
-    case(b"capacity 0", 2, 0, 0, &[4, 0, 0]);
-    case(b"start 4294967295", 1, 1, LIMIT, &[0, 0, 0]);
+fn sizes(rt: &impl Print) -> io::Result<()> {
+    case(rt, "n = 0", 0, 4, 0, &[4, 0, 0])?;
+    case(rt, "n = 9", 9, 4, 0, &[4, 0, 0])?;
+    case(rt, "n = 8, capacity 16", 8, 16, 0, &[4, 7, 0])?;
+    case(rt, "n = 8, capacity 16, mark 8", 8, 16, 0, &[4, 8, 0])?;
+    case(rt, "capacity 17", 2, 17, 0, &[4, 0, 0])?;
+    case(rt, "capacity 0", 2, 0, 0, &[4, 0, 0])?;
+    case(rt, "start 4294967295", 1, 1, LIMIT, &[0, 0, 0])
 }
 
-fn steps() {
-    case(b"n = 1: ask 0, enter 0", 1, 4, 0, &[0, 0, 0, 2, 0, 0]);
+fn steps(rt: &impl Print) -> io::Result<()> {
+    case(rt, "n = 1: ask 0, enter 0", 1, 4, 0, &[0, 0, 0, 2, 0, 0])?;
     case(
-        b"capacity 1: ask 0, ask 1, carry 0 1",
+        rt,
+        "capacity 1: ask 0, ask 1, carry 0 1",
         2,
         1,
         0,
         &[0, 0, 0, 0, 1, 0, 1, 0, 1],
-    );
+    )?;
     case(
-        b"capacity 1: ask, carry, carry, enter, leave, ask",
+        rt,
+        "capacity 1: ask, carry, carry, enter, leave, ask",
         2,
         1,
         0,
         &[0, 0, 0, 1, 0, 1, 1, 1, 0, 2, 0, 0, 3, 0, 0, 0, 0, 0],
-    );
+    )?;
     case(
-        b"start 4294967294: mark 0 twice",
+        rt,
+        "start 4294967294: mark 0 twice",
         2,
         4,
         LIMIT - 1,
         &[4, 0, 0, 4, 0, 0],
-    );
+    )?;
     case(
-        b"start 4294967293: ask 0, carry 0 1",
+        rt,
+        "start 4294967293: ask 0, carry 0 1",
         2,
         4,
         LIMIT - 2,
         &[0, 0, 0, 1, 0, 1],
-    );
+    )?;
     case(
-        b"start 4294967292: ask 0, carry 0 1",
+        rt,
+        "start 4294967292: ask 0, carry 0 1",
         2,
         4,
         LIMIT - 3,
         &[0, 0, 0, 1, 0, 1],
-    );
-    case(b"carry 2 2", 2, 4, 0, &[1, 2, 2]);
-    case(b"carry 0 2", 2, 4, 0, &[1, 0, 2]);
-    case(b"carry 0 0", 2, 4, 0, &[1, 0, 0]);
-    case(b"carry 0 1", 2, 4, 0, &[1, 0, 1]);
+    )?;
+    case(rt, "carry 2 2", 2, 4, 0, &[1, 2, 2])?;
+    case(rt, "carry 0 2", 2, 4, 0, &[1, 0, 2])?;
+    case(rt, "carry 0 0", 2, 4, 0, &[1, 0, 0])?;
+    case(rt, "carry 0 1", 2, 4, 0, &[1, 0, 1])?;
     case(
-        b"start 4294967294: ask 0 twice",
+        rt,
+        "start 4294967294: ask 0 twice",
         2,
         4,
         LIMIT - 1,
         &[0, 0, 0, 0, 0, 0],
-    );
-    case(b"enter 0, leave 0 from idle", 2, 4, 0, &[2, 0, 0, 3, 0, 0]);
+    )?;
+    case(
+        rt,
+        "enter 0, leave 0 from idle",
+        2,
+        4,
+        0,
+        &[2, 0, 0, 3, 0, 0],
+    )
 }
 
 // The steps of document 01's whole run.
-fn whole_run() {
+fn whole_run(rt: &impl Print) -> io::Result<()> {
     case(
-        b"the whole run",
+        rt,
+        "the whole run",
         2,
         4,
         0,
@@ -147,7 +173,7 @@ fn whole_run() {
             0, 0, 0, 0, 1, 0, 2, 0, 0, 1, 0, 1, 1, 1, 0, 2, 0, 0, 1, 1, 0, 2, 0, 0, 2, 1, 0, 3, 0,
             0, 1, 0, 1, 1, 0, 1, 2, 1, 0, 0, 2, 0, 3, 1, 0,
         ],
-    );
+    )
 }
 
 // ---- damaged tables
@@ -168,81 +194,90 @@ fn reached() -> [u32; WORDS] {
 }
 
 // Puts one word into the table, and marks: a table that isn't well formed is answered 1 and left as it is.
-fn damaged(name: &[u8], place: usize, value: u32) {
+fn damaged(rt: &impl Print, name: &str, place: usize, value: u32) -> io::Result<()> {
     let mut t = reached();
-    say(name);
+    say(rt, name)?;
     if place < WORDS {
         t[place] = value;
     }
     let before = digest(&t);
-    say(b": ");
-    say_number(table::step(&mut t, Step::Mark(0)));
+    say(rt, ": ")?;
+    say_number(rt, table::step(&mut t, Step::Mark(0)))?;
     if digest(&t) == before {
-        say(b" as it was\n");
+        say(rt, " as it was\n")?;
     } else {
-        say(b" changed\n");
+        say(rt, " changed\n")?;
     }
+    Ok(())
 }
 
-fn damaged_benches() {
-    damaged(b"not damaged", CAPACITY, 2);
-    damaged(b"no bench", 0, 0);
-    damaged(b"nine benches", 0, 9);
-    damaged(b"capacity 0", CAPACITY, 0);
-    damaged(b"capacity 17", CAPACITY, 17);
-    damaged(b"capacity 1, all channels within it", CAPACITY, 1);
-    damaged(b"phase 3", PHASES + 2, 3);
-    damaged(b"own entry missing at a holder", ENTRIES, 0);
-    damaged(b"own entry missing at a waiter", ENTRIES + MOST + 1, 0);
-    damaged(b"own entry of an idle bench", ENTRIES + 2 * MOST + 2, 9);
-    damaged(b"a waiting bench made idle", PHASES + 1, 0);
-    damaged(b"clock at an absent bench", CLOCKS + 3, 1);
-    damaged(b"phase at an absent bench", PHASES + 7, 1);
+fn damaged_benches(rt: &impl Print) -> io::Result<()> {
+    damaged(rt, "not damaged", CAPACITY, 2)?;
+    damaged(rt, "no bench", 0, 0)?;
+    damaged(rt, "nine benches", 0, 9)?;
+    damaged(rt, "capacity 0", CAPACITY, 0)?;
+    damaged(rt, "capacity 17", CAPACITY, 17)?;
+    damaged(rt, "capacity 1, all channels within it", CAPACITY, 1)?;
+    damaged(rt, "phase 3", PHASES + 2, 3)?;
+    damaged(rt, "own entry missing at a holder", ENTRIES, 0)?;
+    damaged(rt, "own entry missing at a waiter", ENTRIES + MOST + 1, 0)?;
+    damaged(rt, "own entry of an idle bench", ENTRIES + 2 * MOST + 2, 9)?;
+    damaged(rt, "a waiting bench made idle", PHASES + 1, 0)?;
+    damaged(rt, "clock at an absent bench", CLOCKS + 3, 1)?;
+    damaged(rt, "phase at an absent bench", PHASES + 7, 1)
 }
 
-fn damaged_pairs() {
-    damaged(b"entry at an absent bench", ENTRIES + 3 * MOST, 1);
-    damaged(b"entry for an absent bench", ENTRIES + 3, 1);
+fn damaged_pairs(rt: &impl Print) -> io::Result<()> {
+    damaged(rt, "entry at an absent bench", ENTRIES + 3 * MOST, 1)?;
+    damaged(rt, "entry for an absent bench", ENTRIES + 3, 1)?;
     damaged(
-        b"entry of an absent bench for itself",
+        rt,
+        "entry of an absent bench for itself",
         ENTRIES + 3 * MOST + 3,
         1,
-    );
-    damaged(b"heard at an absent bench", HEARD + 5 * MOST, 1);
-    damaged(b"heard from an absent bench", HEARD + 5, 1);
-    damaged(b"heard from itself", HEARD + MOST + 1, 1);
-    damaged(b"message from an absent bench", COUNTS + 4 * MOST, 1);
-    damaged(b"message to an absent bench", COUNTS + 4, 1);
-    damaged(b"message to itself", COUNTS, 1);
-    damaged(b"a channel over capacity", COUNTS + MOST + 2, 3);
-    damaged(b"a channel shorter than its messages", COUNTS + MOST + 2, 0);
+    )?;
+    damaged(rt, "heard at an absent bench", HEARD + 5 * MOST, 1)?;
+    damaged(rt, "heard from an absent bench", HEARD + 5, 1)?;
+    damaged(rt, "heard from itself", HEARD + MOST + 1, 1)?;
+    damaged(rt, "message from an absent bench", COUNTS + 4 * MOST, 1)?;
+    damaged(rt, "message to an absent bench", COUNTS + 4, 1)?;
+    damaged(rt, "message to itself", COUNTS, 1)?;
+    damaged(rt, "a channel over capacity", COUNTS + MOST + 2, 3)?;
+    damaged(
+        rt,
+        "a channel shorter than its messages",
+        COUNTS + MOST + 2,
+        0,
+    )
 }
 
-fn damaged_slots() {
+fn damaged_slots(rt: &impl Print) -> io::Result<()> {
     let channel = (MOST + 2) * CHANNEL;
     let itself = 0;
-    damaged(b"a kind that is not named", KINDS + channel, 3);
-    damaged(b"another kind that is named", KINDS + channel, 2);
-    damaged(b"a message with stamp 0", STAMPS + channel, 0);
-    damaged(b"a kind in an unused slot", KINDS + channel + SLOT, 1);
+    damaged(rt, "a kind that is not named", KINDS + channel, 3)?;
+    damaged(rt, "another kind that is named", KINDS + channel, 2)?;
+    damaged(rt, "a message with stamp 0", STAMPS + channel, 0)?;
+    damaged(rt, "a kind in an unused slot", KINDS + channel + SLOT, 1)?;
     damaged(
-        b"a stamp in an unused slot",
+        rt,
+        "a stamp in an unused slot",
         STAMPS + channel + 15 * SLOT,
         1,
-    );
+    )?;
     damaged(
-        b"a stamp in a bench's channel to itself",
+        rt,
+        "a stamp in a bench's channel to itself",
         STAMPS + itself,
         1,
-    );
-    damaged(b"a stamp in an absent bench's channel", WORDS - 1, 1);
+    )?;
+    damaged(rt, "a stamp in an absent bench's channel", WORDS - 1, 1)
 }
 
-fn main() {
-    sizes();
-    steps();
-    whole_run();
-    damaged_benches();
-    damaged_pairs();
-    damaged_slots();
+fn main(rt: HostRuntime) -> io::Result<()> {
+    sizes(&rt)?;
+    steps(&rt)?;
+    whole_run(&rt)?;
+    damaged_benches(&rt)?;
+    damaged_pairs(&rt)?;
+    damaged_slots(&rt)
 }
