@@ -1,21 +1,20 @@
 -- How far a run has come: the invariant of its loop, one turn of it, and the way out.
-use Prim.Native.Nat.{ℕ, suc, ◌+◌, ◌*◌, ◌-◌, ◌≤◌, ◌<◌}
+use Prim.Native.Nat.{ℕ, ◌+◌, ◌*◌, ◌-◌, ◌≤◌, ◌<◌}
 use native.Mathlib.Omega.{arith}
-use mathlib.Core.Path.{◌≡◌, refl, sym, ap, ◌∙◌}
+use mathlib.Core.Path.{◌≡◌}
 use mathlib.Core.Bool.{true}
 use mathlib.Core.List.{List, [], ◌∷◌, ◌++◌}
-use lib.ListN.{length, drop, length-append}
+use lib.ListN.{length, drop}
 use Rattle.lamport.specs.Refusals.{answer, next}
 use Rattle.lamport.specs.declared.Step.{Step}
 use Rattle.words.specs.View.{view}
 use Rattle.words.specs.WellFormed.{well_formed}
 use Rattle.listing.specs.Write.{Wrote}
 use Rattle.listing.specs.Record.{record_text}
-use Rattle.listing.specs.declared.Record.{Record}
 use Rattle.report.specs.Report.{record_of}
 use Rattle.schedule.specs.Parts.{lf, parts, count}
 use Rattle.schedule.specs.Schedule.{steps_of}
-use Rattle.run.specs.Listing.{records, lines, refused_one, refused_in}
+use Rattle.run.specs.Listing.{records, refused_one}
 use Rattle.run.specs.Run.{RanAs}
 use Rattle.run.proofs.Records.{records-step, Makes, made-text, made-taken, made-refusals, makes-step}
 

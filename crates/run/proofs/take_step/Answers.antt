@@ -1,0 +1,56 @@
+-- the words t, a table, become u by the step x, which is answered r: where r is not 2, the step's bench is in the table after it
+use Rattle.std.proofs.Common.{◌≡◌, ◌≤◌, ◌<◌, ℕ, List, length, true, ◌∙◌, arith}
+use Rattle.lamport.specs.declared.Step.{Step}
+use Rattle.lamport.specs.Steps.{actor}
+use Rattle.lamport.proofs.Granted.{next-benches}
+use Rattle.words.specs.View.{view}
+use Rattle.words.specs.WellFormed.{well_formed}
+use Rattle.words.proofs.Formed.{few}
+use Rattle.table.specs.Post.{Stepped}
+use Rattle.table.proofs.Granting.{actor-in}
+use Rattle.table.proofs.Determined.{answered, follows, keeps}
+use Rattle.listing.specs.Record.{record_text}
+use Rattle.run.proofs.Answered.{answer-small, inside-unless_2}
+use Rattle.run.proofs.take_step.Goals as goal
+
+acts_within : (t : List ℕ) (x : Step) (r : ℕ) (u : List ℕ) → well_formed t ≡ true → Stepped t x r u → (r ≡ 2 → ⊥) → actor x < (view u).benches
+acts_within t x r u w m n =
+    rw (follows t x r u w m, next-benches (view t) x)
+    (actor-in t w x (inside-unless_2 (view t) x (λ e. n (answered t x r u w m ∙ e))))
+
+pub record_of-r-requires-clause-t_bound : goal.record_of-r-requires-clause-t_bound
+record_of-r-requires-clause-t_bound c = few _ (keeps _ _ _ _ c.requires.t_value c.step_formed-no.ensures)
+
+pub record_of-r-requires-clause-s_bound : goal.record_of-r-requires-clause-s_bound
+record_of-r-requires-clause-s_bound c = λ n.
+    omega (
+      arith,
+      acts_within _ _ _ _ c.requires.t_value c.step_formed-no.ensures n,
+      few _ (keeps _ _ _ _ c.requires.t_value c.step_formed-no.ensures),
+    )
+
+pub put_record-requires : goal.put_record-requires
+put_record-requires c =
+    let w = c.requires.t_value in
+    let m = c.step_formed-no.ensures in
+    let digit : c.step_formed-no.result < 10 =
+    omega (arith, answered _ _ _ _ w m, answer-small (view c.args.t.now) c.args.x) in
+    let s : length (record_text c.record_of-r.result) ≤ 32 =
+    c.record_of-r.ensures.short (keeps _ _ _ _ w m) (acts_within _ _ _ _ w m) c.requires.k_bound digit in
+    omega arith
+
+pub returns : goal.returns
+returns c =
+    let w = c.requires.t_value in
+    let m = c.step_formed-no.ensures in
+    let digit : c.step_formed-no.result < 10 =
+    omega (arith, answered _ _ _ _ w m, answer-small (view c.args.t.now) c.args.x) in
+    let s : length (record_text c.record_of-r.result) ≤ 32 =
+    c.record_of-r.ensures.short (keeps _ _ _ _ w m) (acts_within _ _ _ _ w m) c.requires.k_bound digit in
+    record {
+      answered = answered _ _ _ _ w m;
+      read = follows _ _ _ _ w m;
+      formed = keeps _ _ _ _ w m;
+      wrote = rw (← answered _ _ _ _ w m, ← follows _ _ _ _ w m, ← c.record_of-r.ensures.exact) c.put_record.ensures;
+      short = omega (arith, c.put_record.ensures.bytes);
+    }
