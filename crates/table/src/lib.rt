@@ -215,6 +215,7 @@ fn apply(t: &mut [u32; WORDS], s: Step)
 }
 
 // A step on words that are known to be a table: nothing is scanned. Nothing is written before the last test has passed.
+#[tactic(auto, using(crate::proofs::Stepping::refused))]
 pub fn step_formed(t: &mut [u32; WORDS], s: Step) -> u32
     requires { well_formed t.old ≡ true }
     ensures { Stepped t.old s result t.new }
