@@ -74,7 +74,7 @@ unfolding steps_of
 steps_cons l [] h = absurd (omega arith)
 steps_cons l (m ∷ ps) h = refl
 
--- the line at `at`, which ends at e: where the text ends, with no lf, or before
+-- the line at `at`, which ends at e: where the text ends, with no LF, or before
 module _ (s : List ℕ) (at e : ℕ) (is : e ≡ at + length (up_to lf (drop at s))) where
   pub check_open : (good : Checked) (k : ℕ) → at < length s → e ≡ length s → check_steps good k (parts lf (drop at s)) ≡ Refused 10 k
   unfolding check_steps

@@ -65,6 +65,6 @@ unfoldable pub fields_line : List (List ℕ) → Line
 fields_line [] = L.Bad
 fields_line (word ∷ fs) = reading word [] fs
 
--- a line, without its lf
+-- a line, without its LF
 unfoldable pub line_of : List ℕ → Line
 line_of s = fields_line (parts tab s)

@@ -1,4 +1,4 @@
--- How a text is parted: lines end in lf, fields are parted by one tab.
+-- How a text is parted: lines end in LF, fields are parted by one tab.
 use Rattle.std.specs.Prelude.{Bool, true, false, cond, List, [], ◌∷◌, ℕ, suc, eqb}
 
 abbrev pub lf : ℕ

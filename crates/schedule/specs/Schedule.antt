@@ -16,7 +16,7 @@ if_step (L.Step x) f other = f x
 if_step L.Bad f other = other
 
 -- the lines after the header, the first of which has the number k: the earliest that is no step is refused.
--- Lines end in lf, the last included: what follows the last lf is empty.
+-- Lines end in LF, the last included: what follows the last LF is empty.
 unfoldable pub check_steps : Checked → ℕ → List (List ℕ) → Checked
 check_steps good k [] = good
 check_steps good k (l ∷ []) = cond (eqb (length l) 0) good (Refused 10 k)
@@ -28,7 +28,7 @@ check_header (L.Header n capacity start) ls = cond (sizes_ok n capacity) (check_
 check_header (L.Step x) ls = Refused 10 1
 check_header L.Bad ls = Refused 10 1
 
--- an empty file is 10 at line 1, and so is a first line with no lf
+-- an empty file is 10 at line 1, and so is a first line with no LF
 unfoldable pub check_lines : List (List ℕ) → Checked
 check_lines [] = Refused 10 1
 check_lines (h ∷ []) = Refused 10 1
