@@ -1,4 +1,3 @@
--- the line at `at` is `text`, and ends at its lf before s ends
 use Rattle.std.proofs.Common.{◌≡◌, ◌≤◌, ◌<◌, ◌+◌, List, [], ◌++◌, ℕ, length, drop, refl, sym, ap, ◌∙◌, arith, length-drop, length-take, length-append}
 use Rattle.std.proofs.Math.Nat.{sub-zero}
 use Rattle.lamport.specs.Refusals.{answer, next}
@@ -18,6 +17,7 @@ use Rattle.run.proofs.Records.{records-end, records-over, makes-start}
 use Rattle.run.proofs.Going.{steps_at, ended, go_on}
 use Rattle.run.proofs.run_lines.Goals as goal
 
+-- the line at `at` is `text`, and ends at its lf before s ends
 module _ (s text : List ℕ) (at : ℕ) (is : text ≡ up_to lf (drop at s)) where
   end_is : at + length text ≡ at + length (up_to lf (drop at s))
   end_is = ap (λ (x : List ℕ). at + length x) is
