@@ -1,6 +1,6 @@
 -- Laws that the proofs share, here and in the crates above.
 pub mod Each
-pub mod Grid
+pub mod Chains
 pub mod Granted
 pub mod Starred
 pub mod Readings

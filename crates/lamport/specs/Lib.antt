@@ -2,6 +2,7 @@
 pub mod Each
 pub mod Order
 pub mod Table
+pub mod Codes
 pub mod Steps
 pub mod Refusals
 pub mod Starred

@@ -1,13 +1,35 @@
 -- The numbers for no, each given exactly when; and the table after a step, done or refused.
-use Rattle.std.specs.Prelude.{ℕ, Bool, true, false, cond, not, ◌&&◌, ◌||◌, List, [], ◌∷◌, ltb, leb, eqb, length}
+use Rattle.std.specs.Prelude.{ℕ, ⊤, Result, Ok, Err, Bool, true, false, cond, not, ◌&&◌, ◌||◌, List, [], ◌∷◌, ltb, leb, eqb, length}
 use Rattle.lamport.specs.Each.{some_other}
 use Rattle.lamport.specs.Order.{limit, lc1, clock_after, entry_rule}
 use Rattle.lamport.specs.Table.{Table}
 use Rattle.lamport.specs.Steps.{actor, admitted, first, done}
 use Rattle.lamport.specs.declared.Kind.{Kind}
 use Rattle.lamport.specs.declared.Kind.TheVariants.{Request, Ack, Release}
+use Rattle.lamport.specs.declared.Refusal.{Refusal}
+use Rattle.lamport.specs.declared.Refusal.TheVariants.{Malformed, NoSuchBench, ToItself, NotAdmitted, NothingThere, NotYet, ChannelFull, ClockSpent, BadSizes, BadLine, NoRoom, TooLong}
 use Rattle.lamport.specs.declared.Step.{Step}
 use Rattle.lamport.specs.declared.Step.TheVariants.{Ask, Carry, Enter, Leave, Mark}
+
+-- the number of each refusal; 9 to 12 are a run's
+abbrev pub number : Refusal → ℕ
+number Malformed = 1
+number NoSuchBench = 2
+number ToItself = 3
+number NotAdmitted = 4
+number NothingThere = 5
+number NotYet = 6
+number ChannelFull = 7
+number ClockSpent = 8
+number BadSizes = 9
+number BadLine = 10
+number NoRoom = 11
+number TooLong = 12
+
+-- an answer as a number: 0 is done
+abbrev pub answer_number : Result ⊤ Refusal → ℕ
+answer_number (Ok done) = 0
+answer_number (Err refusal) = number refusal
 
 -- (1, the table isn't well formed, is a matter of the words that a table stands in.)
 

@@ -1,6 +1,8 @@
 -- The table of benches, by what is read in it.
 use Rattle.std.specs.Prelude.{ℕ, Bool, cond, ◌&&◌, List, [], ltb, leb}
 use Rattle.lamport.specs.declared.Message.{Message}
+use Rattle.lamport.specs.declared.Phase.{Phase}
+use Rattle.lamport.specs.declared.Phase.TheVariants.{Idle, Waiting, Holding}
 
 pub record Table : Type 0 where
   -- n, and how many messages a channel takes
@@ -25,6 +27,11 @@ waiting = 1
 
 abbrev pub holding : ℕ
 holding = 2
+
+abbrev pub phase_number : Phase → ℕ
+phase_number Idle = idle
+phase_number Waiting = waiting
+phase_number Holding = holding
 
 -- 1 to 8 benches, a capacity of 1 to 16 messages
 abbrev pub within : ℕ → ℕ → ℕ → Bool
