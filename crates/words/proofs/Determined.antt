@@ -9,7 +9,8 @@ use lib.ListN.{length, get_or}
 use lib.Seq.{ext_get_or}
 use Rattle.lamport.specs.declared.Message.{Message}
 use Rattle.lamport.specs.Table.{Table}
-use Rattle.words.specs.Places.{slot_words, channel_words, first_clock, first_phase, first_entry, first_heard, first_count, first_slot, size, clock_at, phase_at, chan, count_at, kind_at, stamp_at, capacity, clock, phase, entry, heard, count, code_of, kind_of}
+use Rattle.lamport.specs.Codes.{code_of}
+use Rattle.words.specs.Places.{slot_words, channel_words, first_clock, first_phase, first_entry, first_heard, first_count, first_slot, size, clock_at, phase_at, chan, count_at, kind_at, stamp_at, capacity, clock, phase, entry, heard, count, kind_of}
 use Rattle.words.specs.View.{slot, channel, view}
 use Rattle.words.specs.WellFormed.{well_formed}
 use Rattle.words.proofs.Listed.{nth, listed_nth}

@@ -275,3 +275,12 @@ module _ (t : List ℕ) (w : well_formed t ≡ true) where
       let h' : p < benches t = rw (view-benches t) at h in
       let k : phase t p ≤ 2 = unfold word in ((test_wf t w).proper p h') in
       omega (arith, view-phase t p h8)
+
+  pub phase-named : (p : ℕ) → p < 8 → (view t).phase p ≤ 2
+  phase-named p h = go (dec_lt p (benches t))
+    where
+      go : Dec (p < benches t) → (view t).phase p ≤ 2
+      go (yes l) = let l' : p < (view t).benches = rw (view-benches t) l in omega (arith, phase-small p l')
+      go (no nl) =
+          let z : phase t p ≡ 0 = unfold word in ((test_wf t w).no-phase p (omega arith) h) in
+          omega (arith, view-phase t p h)

@@ -2,3 +2,4 @@
 pub mod Places
 pub mod View
 pub mod WellFormed
+pub mod Reads

@@ -97,11 +97,6 @@ kind t c i = get_or t (kind_at c i) 0
 abbrev pub stamp : List ℕ → ℕ → ℕ → ℕ
 stamp t c i = get_or t (stamp_at c i) 0
 
--- a kind as a word, and the kind that a word is
-abbrev pub code_of : Kind → ℕ
-code_of Request = 0
-code_of Ack = 1
-code_of Release = 2
-
+-- the kind that a word is
 abbrev pub kind_of : ℕ → Kind
 kind_of code = cond (eqb code 0) Request (cond (eqb code 1) Ack Release)

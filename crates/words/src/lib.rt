@@ -1,14 +1,20 @@
 // A table of benches in 32-bit words that the caller lends: where each reading stands, and whether the words are well formed.
 #![tactic(auto)]
 
-ghost use Rattle.std.specs.Prelude.{◌≡◌, ◌&&◌, ◌+◌, ◌*◌, ◌<◌, ◌≤◌, eqb, length, get_or};
+ghost use Rattle.std.specs.Prelude.{◌≡◌, ◌&&◌, ◌+◌, ◌*◌, ◌<◌, ◌≤◌, length, get_or};
 ghost use Rattle.lamport.specs.Each.{all_below};
 ghost use Rattle.lamport.specs.Steps.{first};
-ghost use Rattle.words.specs.Places.{size, kind_of, count as count_of, kind as kind_in, stamp as stamp_in};
+ghost use Rattle.lamport.specs.Table.{phase_number};
+ghost use Rattle.words.specs.Places.{kind_of, count as count_of, kind as kind_in, stamp as stamp_in};
 ghost use Rattle.words.specs.View.{view, Row};
 ghost use Rattle.words.specs.WellFormed.{phase_ok, own_ok, joined, own_entry, bench_ok, link_ok, slot_ok, pair_ok, row_ok, well_formed};
 
-use lamport::{Kind, Message, sizes_ok, wide};
+pub mod numbers;
+pub mod tables;
+
+use lamport::{Kind, Message, Phase, sizes_ok};
+use numbers::{Bench, Channel};
+use tables::Table;
 
 // Room for so many benches, for so many messages in a channel, and words for a message and for a channel.
 pub const MOST: usize = 8;
@@ -42,178 +48,167 @@ pub const STAMPS: usize = KINDS + 1;
 
 pub const WORDS: usize = KINDS + MOST * MOST * CHANNEL;
 
+pub type Words = [u32; WORDS];
+
 // ---- what a table reads
 
-pub fn benches(t: &[u32; WORDS]) -> usize
+#[tactic(auto, unfolding(crate::specs::View::view))]
+pub fn benches(t: &Words) -> usize
     ensures { result ≡ (view t.now).benches }
 {
-    wide(t[BENCHES])
+    t[BENCHES] as usize
 }
 
-pub fn capacity(t: &[u32; WORDS]) -> u32
+#[tactic(auto, unfolding(crate::specs::View::view))]
+pub fn capacity(t: &Words) -> u32
     ensures { result ≡ (view t.now).capacity }
 {
     t[CAPACITY]
 }
 
-pub fn clock(t: &[u32; WORDS], p: usize) -> u32
-    requires { p < 8 }
-    ensures { result ≡ (view t.now).clock p }
+pub fn clock(t: &Words, p: Bench) -> u32
+    ensures { result ≡ (view t.now).clock p.number }
 {
-    t[CLOCKS + p]
+    t[CLOCKS + p.number]
 }
 
-pub fn phase(t: &[u32; WORDS], p: usize) -> usize
-    requires { p < 8 }
-    ensures { result ≡ (view t.now).phase p }
+fn phase_word(t: &Words, p: Bench) -> u32
+    ensures { result ≡ (view t.now).phase p.number }
 {
-    wide(t[PHASES + p])
+    t[PHASES + p.number]
 }
 
-// p's own queue: its entry for q.
-pub fn entry(t: &[u32; WORDS], p: usize, q: usize) -> u32
-    requires p_bound { p < 8 }
-    requires q_bound { q < 8 }
-    ensures { result ≡ (view t.now).entry p q }
+pub fn phase(t: &Table, p: Bench) -> Phase
+    ensures { phase_number result ≡ (view t.now.words).phase p.number }
 {
-    t[ENTRIES + p * MOST + q]
+    Phase::try_from(phase_word(&t.words, p)).unwrap()
 }
 
-// The largest stamp that p has heard from q.
-pub fn heard(t: &[u32; WORDS], p: usize, q: usize) -> u32
-    requires p_bound { p < 8 }
-    requires q_bound { q < 8 }
-    ensures { result ≡ (view t.now).heard p q }
+// The words of p in a block that has a word for each pair of benches.
+fn row(t: &Words, block: usize, p: Bench) -> &[u32]
+    requires fits { block + 64 ≤ 2258 }
+    ensures { Row result.now (λ q. get_or t.now (block + p.number * 8 + q) 0) }
 {
-    t[HEARD + p * MOST + q]
+    let words = &t[..];
+    let at = block + p.number * MOST;
+    &words[at..at + MOST]
 }
 
 // p's own queue, and all that p has heard, as rows of the table's own words.
-pub fn queue(t: &[u32; WORDS], p: usize) -> &[u32]
-    requires { p < 8 }
-    ensures { Row result.now ((view t.now).entry p) }
+pub fn queue(t: &Words, p: Bench) -> &[u32]
+    ensures { Row result.now ((view t.now).entry p.number) }
 {
-    let words = &t[..];
-    let at = ENTRIES + p * MOST;
-    &words[at..at + MOST]
+    row(t, ENTRIES, p)
 }
 
-pub fn hearing(t: &[u32; WORDS], p: usize) -> &[u32]
-    requires { p < 8 }
-    ensures { Row result.now ((view t.now).heard p) }
+pub fn hearing(t: &Words, p: Bench) -> &[u32]
+    ensures { Row result.now ((view t.now).heard p.number) }
 {
-    let words = &t[..];
-    let at = HEARD + p * MOST;
-    &words[at..at + MOST]
+    row(t, HEARD, p)
+}
+
+// p's own queue: its entry for q.
+pub fn entry(t: &Words, p: Bench, q: Bench) -> u32
+    ensures { result ≡ (view t.now).entry p.number q.number }
+{
+    queue(t, p)[q.number]
+}
+
+// The largest stamp that p has heard from q.
+pub fn heard(t: &Words, p: Bench, q: Bench) -> u32
+    ensures { result ≡ (view t.now).heard p.number q.number }
+{
+    hearing(t, p)[q.number]
+}
+
+fn channel_count(t: &Words, c: Channel) -> u32
+    ensures { result ≡ count_of t.now c.number }
+{
+    t[COUNTS + c.number]
 }
 
 // How many messages are on p's channel to q.
-pub fn count(t: &[u32; WORDS], p: usize, q: usize) -> u32
-    requires p_bound { p < 8 }
-    requires q_bound { q < 8 }
-    ensures { result ≡ length ((view t.now).messages p q) }
+pub fn count(t: &Words, p: Bench, q: Bench) -> u32
+    ensures { result ≡ length ((view t.now).messages p.number q.number) }
 {
-    t[COUNTS + (p * MOST + q)]
+    channel_count(t, Channel::between(p, q))
 }
 
+// A message slot as it stands: the word of its kind, and its stamp.
+#[derive(Clone, Copy)]
+struct SlotWords {
+    kind: u32,
+    stamp: u32,
+}
+
+fn slot_at(t: &Words, c: Channel, i: usize) -> SlotWords
+    requires { i < 16 }
+    ensures kind { result.kind ≡ kind_in t.now c.number i }
+    ensures stamp { result.stamp ≡ stamp_in t.now c.number i }
+{
+    SlotWords {
+        kind: t[KINDS + c.number * CHANNEL + i * SLOT],
+        stamp: t[STAMPS + c.number * CHANNEL + i * SLOT],
+    }
+}
+
+// The kind that a word reads as, well formed or not.
 fn kind_of(code: u32) -> Kind
     ensures { result ≡ kind_of code }
 {
-    if code == 0 {
-        return Kind::Request;
-    }
-    if code == 1 {
-        return Kind::Ack;
-    }
-    Kind::Release
+    Kind::try_from(code).unwrap_or(Kind::Release)
 }
 
 // The oldest message on p's channel to q.
-pub fn oldest(t: &[u32; WORDS], p: usize, q: usize) -> Message
-    requires p_bound { p < 8 }
-    requires q_bound { q < 8 }
-    requires nonzero { 0 < length ((view t.now).messages p q) }
-    ensures { result ≡ first ((view t.now).messages p q) }
+pub fn oldest(t: &Words, p: Bench, q: Bench) -> Message
+    requires something { 0 < length ((view t.now).messages p.number q.number) }
+    ensures { result ≡ first ((view t.now).messages p.number q.number) }
 {
-    let c = p * MOST + q;
+    let slot = slot_at(t, Channel::between(p, q), 0);
     Message {
-        kind: kind_of(slot_kind(t, c, 0)),
-        stamp: slot_stamp(t, c, 0),
+        kind: kind_of(slot.kind),
+        stamp: slot.stamp,
     }
 }
 
 // ---- well formed
 
-fn slot_kind(t: &[u32; WORDS], c: usize, i: usize) -> u32
-    requires c_bound { c < 64 }
-    requires i_bound { i < 16 }
-    ensures { result ≡ kind_in t.now c i }
-{
-    t[KINDS + c * CHANNEL + i * SLOT]
-}
-
-fn slot_stamp(t: &[u32; WORDS], c: usize, i: usize) -> u32
-    requires c_bound { c < 64 }
-    requires i_bound { i < 16 }
-    ensures { result ≡ stamp_in t.now c i }
-{
-    t[STAMPS + c * CHANNEL + i * SLOT]
-}
-
-fn channel_count(t: &[u32; WORDS], c: usize) -> usize
-    requires { c < 64 }
-    ensures { result ≡ count_of t.now c }
-{
-    wide(t[COUNTS + c])
-}
-
 // A slot in use has a kind that is named and a stamp; any other is zero.
-fn slot_ok(t: &[u32; WORDS], c: usize, i: usize) -> bool
-    requires c_bound { c < 64 }
-    requires i_bound { i < 16 }
-    ensures { result ≡ slot_ok t.now c i }
+fn slot_ok(t: &Words, c: Channel, i: usize) -> bool
+    requires { i < 16 }
+    ensures { result ≡ slot_ok t.now c.number i }
 {
-    let kind = slot_kind(t, c, i);
-    let stamp = slot_stamp(t, c, i);
-    if i < channel_count(t, c) {
-        return kind <= 2 && 1 <= stamp;
+    let slot = slot_at(t, c, i);
+    if i < channel_count(t, c) as usize {
+        return Kind::try_from(slot.kind).is_ok() && 1 <= slot.stamp;
     }
-    kind == 0 && stamp == 0
+    slot.kind == 0 && slot.stamp == 0
 }
 
-fn slots_ok(t: &[u32; WORDS], c: usize) -> bool
-    requires { c < 64 }
-    ensures { result ≡ all_below (slot_ok t.now c) 16 }
+fn slots_ok(t: &Words, c: Channel) -> bool
+    ensures { result ≡ all_below (slot_ok t.now c.number) 16 }
 {
-    let mut i: usize = 0;
-    while i < SLOTS {
-        if !slot_ok(t, c, i) {
-            return false;
-        }
-        i += 1;
-    }
-    true
+    (0..SLOTS).all(|i| slot_ok(t, c, i))
 }
 
 // Two different benches, which have a channel and hear each other.
-fn are_joined(t: &[u32; WORDS], p: usize, q: usize) -> bool
-    ensures { result ≡ joined (view t.now) p q }
+fn are_joined(t: &Words, p: Bench, q: Bench) -> bool
+    ensures { result ≡ joined (view t.now) p.number q.number }
 {
     let n = benches(t);
-    p < n && (q < n && p != q)
+    p.number < n && (q.number < n && p != q)
 }
 
-fn is_own_entry(t: &[u32; WORDS], p: usize, q: usize) -> bool
-    ensures { result ≡ own_entry (view t.now) p q }
+fn is_own_entry(t: &Words, p: Bench, q: Bench) -> bool
+    ensures { result ≡ own_entry (view t.now) p.number q.number }
 {
-    p == q && p < benches(t)
+    p == q && p.number < benches(t)
 }
 
 // Between two benches there are no more messages than the capacity; elsewhere there is nothing but a bench's own entry.
-fn link_ok(t: &[u32; WORDS], p: usize, q: usize) -> bool
-    requires p_bound { p < 8 }
-    requires q_bound { q < 8 }
-    ensures { result ≡ link_ok (view t.now) p q }
+#[tactic(auto, unfolding(crate::specs::WellFormed::link_ok))]
+fn link_ok(t: &Words, p: Bench, q: Bench) -> bool
+    ensures { result ≡ link_ok (view t.now) p.number q.number }
 {
     let waiting = count(t, p, q);
     if are_joined(t, p, q) {
@@ -222,80 +217,57 @@ fn link_ok(t: &[u32; WORDS], p: usize, q: usize) -> bool
     waiting == 0 && (heard(t, p, q) == 0 && (is_own_entry(t, p, q) || entry(t, p, q) == 0))
 }
 
-fn pair_ok(t: &[u32; WORDS], p: usize, q: usize) -> bool
-    requires p_bound { p < 8 }
-    requires q_bound { q < 8 }
-    ensures { result ≡ pair_ok t.now p q }
+#[tactic(auto, unfolding(crate::specs::WellFormed::pair_ok))]
+fn pair_ok(t: &Words, p: Bench, q: Bench) -> bool
+    ensures { result ≡ pair_ok t.now p.number q.number }
 {
-    link_ok(t, p, q) && slots_ok(t, p * MOST + q)
+    link_ok(t, p, q) && slots_ok(t, Channel::between(p, q))
 }
 
-fn pairs_ok(t: &[u32; WORDS], p: usize) -> bool
-    requires { p < 8 }
-    ensures { result ≡ all_below (pair_ok t.now p) 8 }
+fn pairs_ok(t: &Words, p: Bench) -> bool
+    ensures { result ≡ all_below (pair_ok t.now p.number) 8 }
 {
-    let mut q: usize = 0;
-    while q < MOST {
-        if !pair_ok(t, p, q) {
-            return false;
-        }
-        q += 1;
-    }
-    true
+    (0..MOST).all(|q| pair_ok(t, p, Bench::new(q)))
 }
 
 // A bench has one of the three phases, and an entry for itself exactly if it isn't idle.
-fn present_ok(t: &[u32; WORDS], p: usize) -> bool
-    requires { p < 8 }
-    ensures { result ≡ (phase_ok (view t.now) p && own_ok (view t.now) p) }
+fn present_ok(t: &Words, p: Bench) -> bool
+    ensures { result ≡ (phase_ok (view t.now) p.number && own_ok (view t.now) p.number) }
 {
-    let phase = phase(t, p);
     let own = entry(t, p, p);
-    if phase == 0 {
-        return own == 0;
+    match Phase::try_from(phase_word(t, p)) {
+        Ok(Phase::Idle) => own == 0,
+        Ok(_) => 1 <= own,
+        Err(_) => false,
     }
-    phase <= 2 && 1 <= own
 }
 
-fn bench_ok(t: &[u32; WORDS], p: usize) -> bool
-    requires { p < 8 }
-    ensures { result ≡ bench_ok (view t.now) p }
+#[tactic(auto, unfolding(crate::specs::WellFormed::bench_ok))]
+fn bench_ok(t: &Words, p: Bench) -> bool
+    ensures { result ≡ bench_ok (view t.now) p.number }
 {
-    if p < benches(t) {
+    if p.number < benches(t) {
         return present_ok(t, p);
     }
-    clock(t, p) == 0 && phase(t, p) == 0
+    clock(t, p) == 0 && phase_word(t, p) == 0
 }
 
-fn row_ok(t: &[u32; WORDS], p: usize) -> bool
-    requires { p < 8 }
-    ensures { result ≡ row_ok t.now p }
+#[tactic(auto, unfolding(crate::specs::WellFormed::row_ok))]
+fn row_ok(t: &Words, p: Bench) -> bool
+    ensures { result ≡ row_ok t.now p.number }
 {
     bench_ok(t, p) && pairs_ok(t, p)
 }
 
-fn rows_ok(t: &[u32; WORDS]) -> bool
+fn rows_ok(t: &Words) -> bool
     ensures { result ≡ all_below (row_ok t.now) 8 }
 {
-    let mut p: usize = 0;
-    while p < MOST {
-        if !row_ok(t, p) {
-            return false;
-        }
-        p += 1;
-    }
-    true
+    (0..MOST).all(|p| row_ok(t, Bench::new(p)))
 }
 
-// How long an array is, a caller learns only from its slice.
-fn size_ok(words: &[u32]) -> bool
-    ensures { result ≡ eqb (length words.now) size }
-{
-    words.len() == WORDS
-}
-
-pub fn well_formed(t: &[u32; WORDS]) -> bool
+#[tactic(auto, unfolding(crate::specs::WellFormed::well_formed, crate::specs::View::view))]
+pub fn well_formed(t: &Words) -> bool
     ensures { result ≡ well_formed t.now }
 {
-    size_ok(&t[..]) && (sizes_ok(t[BENCHES], t[CAPACITY]) && rows_ok(t))
+    sizes_ok(t[BENCHES], t[CAPACITY]) && rows_ok(t)
 }

@@ -3,4 +3,4 @@ use Rattle.words.proofs.Reading.{view-count}
 use Rattle.words.proofs.count.Goals as goal
 
 pub returns : goal.returns
-returns c = sym (view-count _ _ _ c.requires.p_bound c.requires.q_bound)
+returns c = rw (c.channel_count.ensures, c.between.ensures) (sym (view-count _ _ _ c.args.p.low c.args.q.low))

@@ -1,9 +1,10 @@
-use Rattle.std.proofs.Common.{◌+◌, ◌*◌, arith}
-use Rattle.words.specs.Places.{most, first_heard}
-use Rattle.words.proofs.Reading.{view-heard, row_of}
+use Rattle.std.proofs.Common.{sym, ◌∙◌}
+use Rattle.words.proofs.Reading.{view-heard}
 use Rattle.words.proofs.hearing.Goals as goal
 
 pub returns : goal.returns
 returns c =
-    row_of c.args.t.now (first_heard + c.args.p * most) _ (omega arith)
-    (λ q l. view-heard c.args.t.now c.args.p q c.requires l)
+    record {
+      long = c.row.ensures.long;
+      reads = λ q l. c.row.ensures.reads q l ∙ sym (view-heard _ _ q c.args.p.low l);
+    }

@@ -4,8 +4,9 @@ use Rattle.words.proofs.oldest.Goals as goal
 pub returns : goal.returns
 returns c =
     rw (
-      c.slot_stamp.ensures,
       c.kind_of.ensures,
-      c.slot_kind.ensures,
-      view_first _ _ _ c.requires.p_bound c.requires.q_bound c.requires.nonzero,
+      c.slot_at-slot.ensures.kind,
+      c.slot_at-slot.ensures.stamp,
+      c.between.ensures,
+      view_first _ _ _ c.args.p.low c.args.q.low c.requires.something,
     )

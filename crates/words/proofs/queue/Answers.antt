@@ -1,9 +1,10 @@
-use Rattle.std.proofs.Common.{◌+◌, ◌*◌, arith}
-use Rattle.words.specs.Places.{most, first_entry}
-use Rattle.words.proofs.Reading.{view-entry, row_of}
+use Rattle.std.proofs.Common.{sym, ◌∙◌}
+use Rattle.words.proofs.Reading.{view-entry}
 use Rattle.words.proofs.queue.Goals as goal
 
 pub returns : goal.returns
 returns c =
-    row_of c.args.t.now (first_entry + c.args.p * most) _ (omega arith)
-    (λ q l. view-entry c.args.t.now c.args.p q c.requires l)
+    record {
+      long = c.row.ensures.long;
+      reads = λ q l. c.row.ensures.reads q l ∙ sym (view-entry _ _ q c.args.p.low l);
+    }

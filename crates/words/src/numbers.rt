@@ -1,0 +1,39 @@
+// Bench numbers and channel numbers, which a table has words for.
+
+ghost use Rattle.std.specs.Prelude.{◌≡◌, ◌<◌};
+ghost use Rattle.words.specs.Places.{chan};
+
+use crate::MOST;
+
+// A bench number that a table has room for, whether or not there is such a bench in it.
+#[derive(Clone, Copy, PartialEq, Eq)]
+pub struct Bench {
+    pub number: usize,
+    ghost low: { number < 8 },
+}
+
+impl Bench {
+    pub fn new(number: usize) -> Bench
+        requires { number < 8 }
+        ensures { result.number ≡ number }
+    {
+        Bench { number }
+    }
+}
+
+// The channel from one bench to another, by its place among all of them.
+#[derive(Clone, Copy)]
+pub struct Channel {
+    pub number: usize,
+    ghost low: { number < 64 },
+}
+
+impl Channel {
+    pub fn between(p: Bench, q: Bench) -> Channel
+        ensures { result.number ≡ chan p.number q.number }
+    {
+        Channel {
+            number: p.number * MOST + q.number,
+        }
+    }
+}
