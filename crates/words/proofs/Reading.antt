@@ -1,14 +1,13 @@
 -- What a view reads, at bench numbers.
-use Prim.Native.Nat.{ℕ, ◌+◌, ◌-◌, ◌<◌, ◌≤◌}
+use Prim.Native.Nat.{ℕ, ◌<◌}
 use native.Mathlib.Omega.{arith}
-use mathlib.Core.Path.{◌≡◌, refl, sym, ap, ◌∙◌}
+use mathlib.Core.Path.{◌≡◌, refl, ap, ◌∙◌}
 use mathlib.Core.List.{List}
 use borrow.Author.Tests.{lt-ltb}
-use lib.ListN.{length, get_or, take, drop, length-take, length-drop}
-use lib.Seq.{get_or-drop, get_or-take}
+use lib.ListN.{length}
 use Rattle.lamport.specs.Steps.{first}
 use Rattle.words.specs.Places.{chan, benches, capacity, clock, phase, entry, heard, count}
-use Rattle.words.specs.View.{slot, channel, view, Row}
+use Rattle.words.specs.View.{slot, channel, view}
 use Rattle.words.proofs.Listed.{listed-length, listed-first}
 
 module _ (t : List ℕ) where
@@ -52,11 +51,3 @@ module _ (t : List ℕ) (p q : ℕ) (hp : p < 8) (hq : q < 8) where
   pub view_first : 0 < length ((view t).messages p q) → first ((view t).messages p q) ≡ slot t (chan p q) 0
   unfolding channel
   view_first h = ap first view-messages ∙ listed-first (slot t (chan p q)) (count t (chan p q)) (omega (arith, view-count))
-
--- eight words from a place on
-pub row_of : (t : List ℕ) (place : ℕ) (f : ℕ → ℕ) → place + 8 ≤ length t → ((q : ℕ) → q < 8 → f q ≡ get_or t (place + q) 0) → Row (take (place + 8 - place) (drop place t)) f
-row_of t place f h r =
-    record {
-      long = simp (length-take, length-drop) (omega arith);
-      reads = λ q l. let l' : q < place + 8 - place = omega arith in (rw (get_or-take, get_or-drop) (sym (r q l)));
-    }
