@@ -8,7 +8,8 @@ use native.Mathlib.Decide.{ℕ_discrete, dec_lt}
 use Rattle.lamport.specs.declared.Kind.{Kind}
 use Rattle.lamport.specs.declared.Kind.TheVariants.{Request, Ack, Release}
 use Rattle.lamport.specs.declared.Message.{Message}
-use Rattle.words.specs.Places.{channel_words, first_count, first_slot, clock_at, phase_at, entry_at, heard_at, chan, count_at, kind_at, stamp_at, code_of}
+use Rattle.lamport.specs.Codes.{code_of}
+use Rattle.words.specs.Places.{channel_words, first_count, first_slot, clock_at, phase_at, entry_at, heard_at, chan, count_at, kind_at, stamp_at}
 use Rattle.words.proofs.Shut.{word, put, size_of, on, off, len}
 use Rattle.words.proofs.Formed.{Slots, Apart, Wf}
 use Rattle.store.specs.Stores.{pushed, popped}

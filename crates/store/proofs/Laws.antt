@@ -11,7 +11,8 @@ use Rattle.lamport.specs.declared.Kind.TheVariants.{Request, Ack, Release}
 use Rattle.lamport.specs.declared.Message.{Message}
 use Rattle.lamport.specs.Each.{up_to}
 use Rattle.lamport.specs.Steps.{rest}
-use Rattle.words.specs.Places.{channel_words, first_slot, size, count_at, kind_at, stamp_at, count, code_of, kind_of}
+use Rattle.lamport.specs.Codes.{code_of}
+use Rattle.words.specs.Places.{channel_words, first_slot, size, count_at, kind_at, stamp_at, count, kind_of}
 use Rattle.words.specs.View.{listed, slot, channel}
 use Rattle.words.proofs.Shut.{word, put, size_of, on, off, len}
 use Rattle.words.proofs.Listed.{listed_same, listed_cons}

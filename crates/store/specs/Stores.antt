@@ -1,6 +1,7 @@
 -- What each inner function stores in a table's words.
 use Rattle.std.specs.Prelude.{ℕ, ◌+◌, ◌-◌, ◌<◌, ◌≤◌, max, ◌≡◌, true, cond, List, eqb, length, set}
 use Rattle.lamport.specs.Each.{up_to}
+use Rattle.lamport.specs.Codes.{code_of}
 use Rattle.lamport.specs.Order.{limit, lc1, clock_after, entry_after}
 use Rattle.lamport.specs.Table.{idle, waiting, holding}
 use Rattle.lamport.specs.Steps.{first}
@@ -9,7 +10,7 @@ use Rattle.lamport.specs.declared.Kind.{Kind}
 use Rattle.lamport.specs.declared.Kind.TheVariants.{Request, Ack, Release}
 use Rattle.lamport.specs.declared.Message.{Message}
 use Rattle.lamport.specs.declared.Step.TheVariants.{Carry}
-use Rattle.words.specs.Places.{clock_at, phase_at, entry_at, heard_at, chan, count_at, kind_at, stamp_at, benches, clock, entry, heard, count, kind, stamp, code_of}
+use Rattle.words.specs.Places.{clock_at, phase_at, entry_at, heard_at, chan, count_at, kind_at, stamp_at, benches, clock, entry, heard, count, kind, stamp}
 use Rattle.words.specs.View.{view}
 
 -- ---- channels
