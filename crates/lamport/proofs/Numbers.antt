@@ -1,9 +1,13 @@
 -- Each number for no is given when it applies and none before it does; 0 when none applies.
 use mathlib.Core.Path.{◌≡◌}
 use mathlib.Core.Bool.{true, false}
+use Prim.Native.Nat.{◌≤◌}
+use native.Mathlib.Omega.{arith}
+use Rattle.lamport.specs.declared.Refusal.{Refusal}
+use Rattle.lamport.specs.declared.Refusal.TheVariants.{Malformed, NoSuchBench, ToItself, NotAdmitted, NothingThere, NotYet, ChannelFull, ClockSpent, BadSizes, BadLine, NoRoom, TooLong}
 use Rattle.lamport.specs.declared.Step.{Step}
 use Rattle.lamport.specs.Table.{Table}
-use Rattle.lamport.specs.Refusals.{outside, to_itself, not_admitted, nothing_there, not_yet, no_room, clock_spent, answer}
+use Rattle.lamport.specs.Refusals.{outside, number, to_itself, not_admitted, nothing_there, not_yet, no_room, clock_spent, answer}
 
 module _ (t : Table) (s : Step) where
   pub no-2 : outside t s ≡ true → 2 ≡ answer t s
@@ -43,3 +47,18 @@ module _ (t : Table) (s : Step) where
               pub no_none : clock_spent t s ≡ false → 0 ≡ answer t s
               unfolding answer
               no_none g = simp (a, b, c, d, e, f, g)
+
+-- no refusal has the number of what is done
+pub number-some : (refusal : Refusal) → 1 ≤ number refusal
+number-some Malformed = omega arith
+number-some NoSuchBench = omega arith
+number-some ToItself = omega arith
+number-some NotAdmitted = omega arith
+number-some NothingThere = omega arith
+number-some NotYet = omega arith
+number-some ChannelFull = omega arith
+number-some ClockSpent = omega arith
+number-some BadSizes = omega arith
+number-some BadLine = omega arith
+number-some NoRoom = omega arith
+number-some TooLong = omega arith

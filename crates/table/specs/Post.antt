@@ -2,7 +2,7 @@
 use Rattle.std.specs.Prelude.{ℕ, ◌≡◌, true, false, cond, List, replicate}
 use Rattle.lamport.specs.Table.{sizes_ok, sizes_answer, fresh}
 use Rattle.lamport.specs.Steps.{first}
-use Rattle.lamport.specs.Refusals.{outside, nothing_there, answer, next}
+use Rattle.lamport.specs.Refusals.{answer, next}
 use Rattle.lamport.specs.declared.Step.{Step}
 use Rattle.lamport.specs.declared.Step.TheVariants.{Ask, Carry, Enter, Leave, Mark}
 use Rattle.words.specs.Places.{size}
@@ -30,19 +30,6 @@ pub record Made (n capacity start r : ℕ) (u : List ℕ) : Type 0 where
   pub zero : sizes_ok n capacity ≡ false → u ≡ replicate size 0
   pub done : sizes_ok n capacity ≡ true → view u ≡ fresh n capacity start
   pub formed : sizes_ok n capacity ≡ true → well_formed u ≡ true
-
--- ---- what inner functions ask and store
-
--- the words are a table, and the step's benches are in it
-pub record Inside (t : List ℕ) (s : Step) : Type 0 where
-  pub formed : well_formed t ≡ true
-  pub inside : outside (view t) s ≡ false
-
--- and what a carry is to take is there
-pub record Ready (t : List ℕ) (s : Step) : Type 0 where
-  pub formed : well_formed t ≡ true
-  pub inside : outside (view t) s ≡ false
-  pub something : nothing_there (view t) s ≡ false
 
 -- what a step that is done stores
 abbrev pub stored : List ℕ → Step → List ℕ

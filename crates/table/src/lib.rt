@@ -1,253 +1,145 @@
 // The engine: make a fresh table, and take a step on it, in the words that the caller lends.
 #![tactic(auto)]
 
-ghost use Rattle.std.specs.Prelude.{◌≡◌, true, ◌<◌, ◌≤◌, length};
-ghost use Rattle.lamport.specs.Refusals.{outside, not_admitted, nothing_there, may_enter, not_yet, full, any_full, no_room, clock_then, clock_spent, answer};
+ghost use Rattle.std.specs.Prelude.{◌≡◌, true, ◌<◌, length};
+ghost use Rattle.lamport.specs.Refusals.{outside, may_enter, full, any_full, no_room, answer, answer_number};
 ghost use Rattle.words.specs.View.{view};
 ghost use Rattle.words.specs.WellFormed.{well_formed};
-ghost use Rattle.table.specs.Post.{Inside, Ready, stored, Stepped, Made};
+ghost use Rattle.table.specs.Post.{stored, Stepped, Made};
 
-use lamport::{Step, actor, admits, clock_after, is_request, is_to_itself, lc1, sizes_ok, wide};
+mod attempt;
+
+use attempt::Attempt;
+use lamport::{Refusal, Setup, Step, actor, is_request, is_to_itself, sizes_ok};
 use store::{ask, carry, enter, leave, mark};
-use words::{
-    BENCHES, CAPACITY, WORDS, benches, capacity, clock, count, hearing, oldest, phase, queue,
-    well_formed,
-};
-
-// The largest clock.
-const LIMIT: usize = 4294967295;
+use words::numbers::Bench;
+use words::tables::Table;
+use words::{BENCHES, CAPACITY, WORDS, Words, capacity, count, hearing, oldest, queue};
 
 // ---- the numbers for no
 
 // 2: a bench number is n or more.
-fn is_outside(t: &[u32; WORDS], s: Step) -> bool
-    ensures { result ≡ outside (view t.now) s }
+fn is_outside(t: &Table, s: Step) -> bool
+    ensures { result ≡ outside (view t.now.words) s }
 {
-    let n = benches(t);
+    let n = t.benches();
     match s {
-        Step::Ask(p) => n <= p,
         Step::Carry(p, q) => n <= p || n <= q,
-        Step::Enter(p) => n <= p,
-        Step::Leave(p) => n <= p,
-        Step::Mark(p) => n <= p,
-    }
-}
-
-// 4: the phase doesn't admit the step.
-fn is_not_admitted(t: &[u32; WORDS], s: Step) -> bool
-    requires { Inside t.now s }
-    ensures { result ≡ not_admitted (view t.now) s }
-{
-    let phase = phase(t, actor(s));
-    !admits(s, phase)
-}
-
-// 5: carry on an empty channel.
-fn has_nothing(t: &[u32; WORDS], s: Step) -> bool
-    requires { Inside t.now s }
-    ensures { result ≡ nothing_there (view t.now) s }
-{
-    match s {
-        Step::Ask(_) => false,
-        Step::Carry(p, q) => count(t, p, q) == 0,
-        Step::Enter(_) => false,
-        Step::Leave(_) => false,
-        Step::Mark(_) => false,
+        Step::Ask(p) | Step::Enter(p) | Step::Leave(p) | Step::Mark(p) => n <= p,
     }
 }
 
 // The entry rule, for bench p of the table.
-fn may_enter(t: &[u32; WORDS], p: usize) -> bool
-    requires p_bound { p < (view t.now).benches }
-    requires t_bound { (view t.now).benches ≤ 8 }
-    ensures { result ≡ may_enter (view t.now) p }
+fn may_enter(t: &Table, p: Bench) -> bool
+    requires present { p.number < (view t.now.words).benches }
+    ensures { result ≡ may_enter (view t.now.words) p.number }
 {
-    let n = benches(t);
-    lamport::may_enter(n, p, queue(t, p), hearing(t, p))
+    lamport::may_enter(
+        t.benches(),
+        p.number,
+        queue(&t.words, p),
+        hearing(&t.words, p),
+    )
 }
 
-// 6: enter, and the entry rule isn't met.
-fn is_not_yet(t: &[u32; WORDS], s: Step) -> bool
-    requires { Inside t.now s }
-    ensures { result ≡ not_yet (view t.now) s }
+fn is_full(t: &Table, p: Bench, q: Bench) -> bool
+    ensures { result ≡ full (view t.now.words) p.number q.number }
 {
-    match s {
-        Step::Ask(_) => false,
-        Step::Carry(_, _) => false,
-        Step::Enter(p) => !may_enter(t, p),
-        Step::Leave(_) => false,
-        Step::Mark(_) => false,
-    }
-}
-
-fn is_full(t: &[u32; WORDS], p: usize, q: usize) -> bool
-    requires p_bound { p < 8 }
-    requires q_bound { q < 8 }
-    ensures { result ≡ full (view t.now) p q }
-{
-    capacity(t) <= count(t, p, q)
+    capacity(&t.words) <= count(&t.words, p, q)
 }
 
 // One of p's channels is full. All are looked at before anything is sent.
-fn any_full(t: &[u32; WORDS], p: usize) -> bool
-    requires p_bound { p < 8 }
-    requires t_bound { (view t.now).benches ≤ 8 }
-    ensures { result ≡ any_full (view t.now) p }
+fn any_full(t: &Table, p: Bench) -> bool
+    ensures { result ≡ any_full (view t.now.words) p.number }
 {
-    let n = benches(t);
-    let mut q: usize = 0;
-    while q < n {
-        if q != p && is_full(t, p, q) {
-            return true;
-        }
-        q += 1;
-    }
-    false
+    (0..t.benches()).any(|q| q != p.number && is_full(t, p, Bench::new(q)))
 }
 
 // q must acknowledge p's request, and its channel to p is full.
-fn no_reply(t: &[u32; WORDS], p: usize, q: usize) -> bool
-    requires p_bound { p < 8 }
-    requires q_bound { q < 8 }
-    requires nonzero { 0 < length ((view t.now).messages p q) }
-    ensures { result ≡ no_room (view t.now) (Step.Carry p q) }
+fn no_reply(t: &Table, p: Bench, q: Bench) -> bool
+    requires something { 0 < length ((view t.now.words).messages p.number q.number) }
+    ensures { result ≡ no_room (view t.now.words) (Step.Carry p.number q.number) }
 {
-    let m = oldest(t, p, q);
-    let kind = m.kind;
-    is_request(kind) && is_full(t, q, p)
+    is_request(oldest(&t.words, p, q).kind) && is_full(t, q, p)
 }
 
-// 7: a message must be sent on a channel already at capacity.
-fn has_no_room(t: &[u32; WORDS], s: Step) -> bool
-    requires { Ready t.now s }
-    ensures { result ≡ no_room (view t.now) s }
-{
-    match s {
-        Step::Ask(p) => any_full(t, p),
-        Step::Carry(p, q) => no_reply(t, p, q),
-        Step::Enter(_) => false,
-        Step::Leave(p) => any_full(t, p),
-        Step::Mark(_) => false,
-    }
-}
-
-fn next_tick(t: &[u32; WORDS], p: usize) -> usize
-    requires { p < 8 }
-    ensures { result ≡ clock_then (view t.now) (Step.Mark p) }
-{
-    lc1(clock(t, p))
-}
-
-fn clock_taking(t: &[u32; WORDS], p: usize, q: usize) -> usize
-    requires p_bound { p < 8 }
-    requires q_bound { q < 8 }
-    requires nonzero { 0 < length ((view t.now).messages p q) }
-    ensures { result ≡ clock_then (view t.now) (Step.Carry p q) }
-{
-    let c = clock(t, q);
-    clock_after(c, oldest(t, p, q))
-}
-
-fn clock_then(t: &[u32; WORDS], s: Step) -> usize
-    requires { Ready t.now s }
-    ensures { result ≡ clock_then (view t.now) s }
-{
-    match s {
-        Step::Ask(p) => next_tick(t, p),
-        Step::Carry(p, q) => clock_taking(t, p, q),
-        Step::Enter(p) => next_tick(t, p),
-        Step::Leave(p) => next_tick(t, p),
-        Step::Mark(p) => next_tick(t, p),
-    }
-}
-
-// 8: a clock would pass the limit.
-fn is_spent(t: &[u32; WORDS], s: Step) -> bool
-    requires { Ready t.now s }
-    ensures { result ≡ clock_spent (view t.now) s }
-{
-    LIMIT < clock_then(t, s)
-}
-
-// The first number that applies, in document 01's order; 0 where none does. It only reads.
-fn refusal(t: &[u32; WORDS], s: Step) -> u32
-    requires { well_formed t.now ≡ true }
-    ensures { result ≡ answer (view t.now) s }
+// The first refusal that applies, in the order of the numbers, or that the step can be done. It only reads.
+#[tactic(auto, unfolding(lamport::specs::Refusals::answer))]
+fn check(t: &Table, s: Step) -> Result<(), Refusal>
+    ensures { answer_number result ≡ answer (view t.now.words) s }
 {
     if is_outside(t, s) {
-        return 2;
+        return Err(Refusal::NoSuchBench);
     }
     if is_to_itself(s) {
-        return 3;
+        return Err(Refusal::ToItself);
     }
-    if is_not_admitted(t, s) {
-        return 4;
+    let attempt = Attempt { table: t, step: s };
+    if attempt.is_not_admitted() {
+        return Err(Refusal::NotAdmitted);
     }
-    if has_nothing(t, s) {
-        return 5;
+    if attempt.has_nothing() {
+        return Err(Refusal::NothingThere);
     }
-    if is_not_yet(t, s) {
-        return 6;
+    if attempt.is_not_yet() {
+        return Err(Refusal::NotYet);
     }
-    if has_no_room(t, s) {
-        return 7;
+    if attempt.has_no_room() {
+        return Err(Refusal::ChannelFull);
     }
-    if is_spent(t, s) {
-        return 8;
+    if attempt.is_spent() {
+        return Err(Refusal::ClockSpent);
     }
-    0
+    Ok(())
 }
 
 // ---- the entry points
 
-fn apply(t: &mut [u32; WORDS], s: Step)
-    requires t_value { well_formed t.old ≡ true }
-    requires s_value { answer (view t.old) s ≡ 0 }
-    ensures { t.new ≡ stored t.old s }
+// Stores what the rules say. Between its writes the words are no table.
+fn apply(words: &mut Words, s: Step)
+    requires formed { well_formed words.old ≡ true }
+    requires done { answer (view words.old) s ≡ 0 }
+    ensures { words.new ≡ stored words.old s }
 {
+    let bench = Bench::new(actor(s));
     match s {
-        Step::Ask(p) => ask(t, p),
-        Step::Carry(p, q) => carry(t, p, q),
-        Step::Enter(p) => enter(t, p),
-        Step::Leave(p) => leave(t, p),
-        Step::Mark(p) => mark(t, p),
+        Step::Ask(_) => ask(words, bench),
+        Step::Carry(p, _) => carry(words, Bench::new(p), bench),
+        Step::Enter(_) => enter(words, bench),
+        Step::Leave(_) => leave(words, bench),
+        Step::Mark(_) => mark(words, bench),
     }
 }
 
-// A step on words that are known to be a table: nothing is scanned. Nothing is written before the last test has passed.
-#[tactic(auto, using(crate::proofs::Stepping::refused))]
-pub fn step_formed(t: &mut [u32; WORDS], s: Step) -> u32
-    requires { well_formed t.old ≡ true }
-    ensures { Stepped t.old s result t.new }
+// A step on a table: nothing is scanned. Nothing is written before the last test has passed.
+pub fn step_formed(t: &mut Table, s: Step) -> Result<(), Refusal>
+    ensures { Stepped t.old.words s (answer_number result) t.new.words }
 {
-    let no = refusal(&*t, s);
-    if no != 0 {
-        return no;
-    }
-    apply(t, s);
-    0
+    check(&*t, s)?;
+    apply(&mut t.words, s);
+    Ok(())
 }
 
 // A step on whatever words are lent.
-pub fn step(t: &mut [u32; WORDS], s: Step) -> u32
-    ensures { Stepped t.old s result t.new }
+pub fn step(words: &mut Words, s: Step) -> Result<(), Refusal>
+    ensures { Stepped words.old s (answer_number result) words.new }
 {
-    if well_formed(&*t) {
-        return step_formed(t, s);
-    }
-    1
+    let mut t = Table::try_from(&*words)?;
+    step_formed(&mut t, s)?;
+    *words = t.words;
+    Ok(())
 }
 
-// A fresh table of n benches; bad sizes give 9, and words that are all zero.
-pub fn fresh(t: &mut [u32; WORDS], n: u32, capacity: u32, start: u32) -> u32
-    ensures { Made n capacity start result t.new }
+// A fresh table of so many benches; bad sizes leave words that are all zero.
+pub fn fresh(words: &mut Words, setup: Setup) -> Result<(), Refusal>
+    ensures { Made setup.benches setup.capacity setup.start (answer_number result) words.new }
 {
-    *t = [0u32; WORDS];
-    if !sizes_ok(n, capacity) {
-        return 9;
+    *words = [0; WORDS];
+    if !sizes_ok(setup.benches, setup.capacity) {
+        return Err(Refusal::BadSizes);
     }
-    t[BENCHES] = n;
-    t[CAPACITY] = capacity;
-    store::start(t, wide(n), start);
-    0
+    words[BENCHES] = setup.benches;
+    words[CAPACITY] = setup.capacity;
+    store::start(words, setup.benches as usize, setup.start);
+    Ok(())
 }

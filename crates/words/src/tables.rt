@@ -3,7 +3,7 @@
 ghost use Rattle.std.specs.Prelude.{◌≡◌, true};
 ghost use Rattle.words.specs.WellFormed.{well_formed};
 
-use crate::{Words, well_formed};
+use crate::{Words, benches, well_formed};
 use lamport::Refusal;
 
 // A table, well formed: what has one needs no scan.
@@ -26,5 +26,17 @@ impl TryFrom<&Words> for Table {
         } else {
             Err(Refusal::Malformed)
         }
+    }
+}
+
+impl Table {
+    ghost use Rattle.std.specs.Prelude.{◌≤◌};
+    ghost use Rattle.words.specs.View.{view};
+
+    pub fn benches(&self) -> usize
+        ensures number { result ≡ (view self.now.words).benches }
+        ensures few { result ≤ 8 }
+    {
+        benches(&self.words)
     }
 }

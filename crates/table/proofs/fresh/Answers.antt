@@ -4,5 +4,5 @@ use Rattle.table.proofs.fresh.Goals as goal
 
 pub returns : goal.returns
 returns c =
-    made c.args.n c.args.capacity c.args.start _ refl (sym c.sizes_ok.ensures ∙ c.if-not-sizes_ok.false) _
-    (rw (c.start.ensures, c.wide.ensures.value))
+    let setup = c.args.setup in
+    made setup.benches setup.capacity setup.start _ refl (sym c.sizes_ok.ensures ∙ c.if-not-sizes_ok.false) _ c.start.ensures
