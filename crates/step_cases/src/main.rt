@@ -1,33 +1,14 @@
-// Executes document 01's step cases, and steps on damaged tables, and prints each answer with a digest of the words after it.
+// Executes step cases at the limits of each rule, and steps on damaged tables, and prints each answer with a digest of the words after it.
 #![tactic(auto)]
 
-use lamport::Step;
+use lamport::{Setup, Step, answer_number};
 use std::io;
 use words::{
     CAPACITY, CHANNEL, CLOCKS, COUNTS, ENTRIES, HEARD, KINDS, MOST, PHASES, SLOT, STAMPS, WORDS,
+    Words,
 };
 
-const LIMIT: u32 = 4294967295;
-
-fn say(rt: &impl Print, text: &str) -> io::Result<()> {
-    print!(rt; "{text}")
-}
-
-fn say_number(rt: &impl Print, x: u32) -> io::Result<()> {
-    print!(rt; "{x}")
-}
-
-// A step from three words: kind 0 to 4 (ask, carry, enter, leave, mark), bench, second bench.
-fn step_of(kind: u32, p: u32, q: u32) -> Step {
-    let p = p as usize;
-    match kind {
-        0 => Step::Ask(p),
-        1 => Step::Carry(p, q as usize),
-        2 => Step::Enter(p),
-        3 => Step::Leave(p),
-        _ => Step::Mark(p),
-    }
-}
+const LIMIT: u32 = u32::MAX;
 
 // ---- a digest of all words, so that a change of any one of them shows
 
@@ -35,143 +16,133 @@ fn mixed(digest: u64, word: u32) -> u64 {
     (digest % 4294967291 * 31 + word as u64) % 4294967291
 }
 
-fn digest(t: &[u32; WORDS]) -> u64 {
-    let mut d: u64 = 7;
-    let mut i: usize = 0;
-    while i < WORDS {
-        d = mixed(d, t[i]);
-        i += 1;
-    }
-    d
-}
-
-fn say_digest(rt: &impl Print, t: &[u32; WORDS]) -> io::Result<()> {
-    say(rt, "  words ")?;
-    let d = digest(t);
-    print!(rt; "{d}")?;
-    say(rt, "\n")
+fn digest(words: &Words) -> u64 {
+    words.iter().fold(7, |d, word| mixed(d, *word))
 }
 
 // ---- cases from a fresh table
 
-// Takes the steps, three words each, and says each answer.
-fn take(rt: &impl Print, t: &mut [u32; WORDS], steps: &[u32]) -> io::Result<()> {
-    let mut i: usize = 0;
-    while i + 2 < steps.len() {
-        say(rt, " ")?;
-        say_number(
-            rt,
-            table::step(t, step_of(steps[i], steps[i + 1], steps[i + 2])),
-        )?;
-        i += 3;
+fn setup(benches: u32, capacity: u32, start: u32) -> Setup {
+    Setup {
+        benches,
+        capacity,
+        start,
     }
-    Ok(())
 }
 
 // The answer to the sizes, the answers to the steps, bench 0's clock and the digest.
-fn case(
-    rt: &impl Print,
-    name: &str,
-    n: u32,
-    capacity: u32,
-    start: u32,
-    steps: &[u32],
-) -> io::Result<()> {
-    let mut t = [1u32; WORDS];
-    say(rt, name)?;
-    say(rt, ": ")?;
-    say_number(rt, table::fresh(&mut t, n, capacity, start))?;
-    take(rt, &mut t, steps)?;
-    say(rt, "  clock ")?;
-    say_number(rt, t[CLOCKS])?;
-    say_digest(rt, &t)
+fn case(rt: &impl Print, name: &str, setup: Setup, steps: &[Step]) -> io::Result<()> {
+    let mut words = [1; WORDS];
+    let made = answer_number(table::fresh(&mut words, setup));
+    print!(rt; "{name}: {made}")?;
+    for s in steps {
+        let answer = answer_number(table::step(&mut words, *s));
+        print!(rt; " {answer}")?;
+    }
+    let clock = words[CLOCKS];
+    let d = digest(&words);
+    println!(rt; "  clock {clock}  words {d}")
 }
 
 fn sizes(rt: &impl Print) -> io::Result<()> {
-    case(rt, "n = 0", 0, 4, 0, &[4, 0, 0])?;
-    case(rt, "n = 9", 9, 4, 0, &[4, 0, 0])?;
-    case(rt, "n = 8, capacity 16", 8, 16, 0, &[4, 7, 0])?;
-    case(rt, "n = 8, capacity 16, mark 8", 8, 16, 0, &[4, 8, 0])?;
-    case(rt, "capacity 17", 2, 17, 0, &[4, 0, 0])?;
-    case(rt, "capacity 0", 2, 0, 0, &[4, 0, 0])?;
-    case(rt, "start 4294967295", 1, 1, LIMIT, &[0, 0, 0])
+    case(rt, "n = 0", setup(0, 4, 0), &[Step::Mark(0)])?;
+    case(rt, "n = 9", setup(9, 4, 0), &[Step::Mark(0)])?;
+    case(rt, "n = 8, capacity 16", setup(8, 16, 0), &[Step::Mark(7)])?;
+    case(
+        rt,
+        "n = 8, capacity 16, mark 8",
+        setup(8, 16, 0),
+        &[Step::Mark(8)],
+    )?;
+    case(rt, "capacity 17", setup(2, 17, 0), &[Step::Mark(0)])?;
+    case(rt, "capacity 0", setup(2, 0, 0), &[Step::Mark(0)])?;
+    case(rt, "start 4294967295", setup(1, 1, LIMIT), &[Step::Ask(0)])
 }
 
 fn steps(rt: &impl Print) -> io::Result<()> {
-    case(rt, "n = 1: ask 0, enter 0", 1, 4, 0, &[0, 0, 0, 2, 0, 0])?;
+    case(
+        rt,
+        "n = 1: ask 0, enter 0",
+        setup(1, 4, 0),
+        &[Step::Ask(0), Step::Enter(0)],
+    )?;
     case(
         rt,
         "capacity 1: ask 0, ask 1, carry 0 1",
-        2,
-        1,
-        0,
-        &[0, 0, 0, 0, 1, 0, 1, 0, 1],
+        setup(2, 1, 0),
+        &[Step::Ask(0), Step::Ask(1), Step::Carry(0, 1)],
     )?;
     case(
         rt,
         "capacity 1: ask, carry, carry, enter, leave, ask",
-        2,
-        1,
-        0,
-        &[0, 0, 0, 1, 0, 1, 1, 1, 0, 2, 0, 0, 3, 0, 0, 0, 0, 0],
+        setup(2, 1, 0),
+        &[
+            Step::Ask(0),
+            Step::Carry(0, 1),
+            Step::Carry(1, 0),
+            Step::Enter(0),
+            Step::Leave(0),
+            Step::Ask(0),
+        ],
     )?;
     case(
         rt,
         "start 4294967294: mark 0 twice",
-        2,
-        4,
-        LIMIT - 1,
-        &[4, 0, 0, 4, 0, 0],
+        setup(2, 4, LIMIT - 1),
+        &[Step::Mark(0), Step::Mark(0)],
     )?;
     case(
         rt,
         "start 4294967293: ask 0, carry 0 1",
-        2,
-        4,
-        LIMIT - 2,
-        &[0, 0, 0, 1, 0, 1],
+        setup(2, 4, LIMIT - 2),
+        &[Step::Ask(0), Step::Carry(0, 1)],
     )?;
     case(
         rt,
         "start 4294967292: ask 0, carry 0 1",
-        2,
-        4,
-        LIMIT - 3,
-        &[0, 0, 0, 1, 0, 1],
+        setup(2, 4, LIMIT - 3),
+        &[Step::Ask(0), Step::Carry(0, 1)],
     )?;
-    case(rt, "carry 2 2", 2, 4, 0, &[1, 2, 2])?;
-    case(rt, "carry 0 2", 2, 4, 0, &[1, 0, 2])?;
-    case(rt, "carry 0 0", 2, 4, 0, &[1, 0, 0])?;
-    case(rt, "carry 0 1", 2, 4, 0, &[1, 0, 1])?;
+    case(rt, "carry 2 2", setup(2, 4, 0), &[Step::Carry(2, 2)])?;
+    case(rt, "carry 0 2", setup(2, 4, 0), &[Step::Carry(0, 2)])?;
+    case(rt, "carry 0 0", setup(2, 4, 0), &[Step::Carry(0, 0)])?;
+    case(rt, "carry 0 1", setup(2, 4, 0), &[Step::Carry(0, 1)])?;
     case(
         rt,
         "start 4294967294: ask 0 twice",
-        2,
-        4,
-        LIMIT - 1,
-        &[0, 0, 0, 0, 0, 0],
+        setup(2, 4, LIMIT - 1),
+        &[Step::Ask(0), Step::Ask(0)],
     )?;
     case(
         rt,
         "enter 0, leave 0 from idle",
-        2,
-        4,
-        0,
-        &[2, 0, 0, 3, 0, 0],
+        setup(2, 4, 0),
+        &[Step::Enter(0), Step::Leave(0)],
     )
 }
 
-// The steps of document 01's whole run.
+// A whole run of two benches.
 fn whole_run(rt: &impl Print) -> io::Result<()> {
     case(
         rt,
         "the whole run",
-        2,
-        4,
-        0,
+        setup(2, 4, 0),
         &[
-            0, 0, 0, 0, 1, 0, 2, 0, 0, 1, 0, 1, 1, 1, 0, 2, 0, 0, 1, 1, 0, 2, 0, 0, 2, 1, 0, 3, 0,
-            0, 1, 0, 1, 1, 0, 1, 2, 1, 0, 0, 2, 0, 3, 1, 0,
+            Step::Ask(0),
+            Step::Ask(1),
+            Step::Enter(0),
+            Step::Carry(0, 1),
+            Step::Carry(1, 0),
+            Step::Enter(0),
+            Step::Carry(1, 0),
+            Step::Enter(0),
+            Step::Enter(1),
+            Step::Leave(0),
+            Step::Carry(0, 1),
+            Step::Carry(0, 1),
+            Step::Enter(1),
+            Step::Ask(2),
+            Step::Leave(1),
         ],
     )
 }
@@ -179,36 +150,38 @@ fn whole_run(rt: &impl Print) -> io::Result<()> {
 // ---- damaged tables
 
 // A table of 3 benches, capacity 2, in which bench 0 holds, bench 1 waits and bench 2 is idle, with messages on the way.
-fn reached() -> [u32; WORDS] {
-    let mut t = [0u32; WORDS];
-    table::fresh(&mut t, 3, 2, 5);
-    table::step(&mut t, Step::Ask(0));
-    table::step(&mut t, Step::Carry(0, 1));
-    table::step(&mut t, Step::Carry(0, 2));
-    table::step(&mut t, Step::Carry(1, 0));
-    table::step(&mut t, Step::Carry(2, 0));
-    table::step(&mut t, Step::Enter(0));
-    table::step(&mut t, Step::Ask(1));
-    table::step(&mut t, Step::Carry(1, 0));
-    t
+fn reached() -> Words {
+    let mut words = [0; WORDS];
+    let _ = table::fresh(&mut words, setup(3, 2, 5));
+    for s in [
+        Step::Ask(0),
+        Step::Carry(0, 1),
+        Step::Carry(0, 2),
+        Step::Carry(1, 0),
+        Step::Carry(2, 0),
+        Step::Enter(0),
+        Step::Ask(1),
+        Step::Carry(1, 0),
+    ] {
+        let _ = table::step(&mut words, s);
+    }
+    words
 }
 
 // Puts one word into the table, and marks: a table that isn't well formed is answered 1 and left as it is.
 fn damaged(rt: &impl Print, name: &str, place: usize, value: u32) -> io::Result<()> {
-    let mut t = reached();
-    say(rt, name)?;
+    let mut words = reached();
     if place < WORDS {
-        t[place] = value;
+        words[place] = value;
     }
-    let before = digest(&t);
-    say(rt, ": ")?;
-    say_number(rt, table::step(&mut t, Step::Mark(0)))?;
-    if digest(&t) == before {
-        say(rt, " as it was\n")?;
+    let before = digest(&words);
+    let answer = answer_number(table::step(&mut words, Step::Mark(0)));
+    let left = if digest(&words) == before {
+        "as it was"
     } else {
-        say(rt, " changed\n")?;
-    }
-    Ok(())
+        "changed"
+    };
+    println!(rt; "{name}: {answer} {left}")
 }
 
 fn damaged_benches(rt: &impl Print) -> io::Result<()> {
