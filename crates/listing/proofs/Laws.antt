@@ -11,10 +11,9 @@ use lib.ListN.{length, take, drop, set, length-append, length-drop, drop_of_leng
 use lib.Seq.{drop-cons, append_snoc, set_at, take_at, drop_at, drop-drop, take_all}
 use borrow.Rule.Slice.PartMut.{put_mid}
 use borrow.Author.Tests.{lt-ltb, le-ltb}
+use Rattle.std.specs.Prelude.{Option, Some, None, slice_index_or}
 use Rattle.listing.specs.Write.{digits, digits_in, over, Wrote}
 use Rattle.listing.specs.Record.{tab, cell_text, fields, record_text, word_line, end_text, refused_text}
-use Rattle.listing.specs.declared.Cell.{Cell}
-use Rattle.listing.specs.declared.Cell.TheVariants.{Number, Dash}
 use Rattle.listing.specs.declared.Record.{Record}
 
 -- the digits of a number below ten, and of any other
@@ -35,6 +34,13 @@ unfolding digits digits_in
 digits-large x h f =
     let s : x / 10 < 10 ^ 19 = omega arith in
     rw (le-ltb x 10 h) (ap (λ (l : List ℕ). l ++ ((48 + x % 10) ∷ [])) (enough 18 (x / 10) s))
+
+-- how many digits that is
+pub length_small : (x : ℕ) → x < 10 → length (digits x) ≡ 1
+length_small x h = ap length (digits-small x h)
+
+pub length_large : (x : ℕ) → 10 ≤ x → x < 2 ^ 64 → length (digits x) ≡ length (digits (x / 10)) + 1
+length_large x h f = ap length (digits-large x h f) ∙ length-append (digits (x / 10)) _
 
 -- a number below 10 ^ (k + 1) has at most k + 1 digits
 either_short : (b : Bool) (l m : List ℕ) (n : ℕ) → length l ≤ n → length m ≤ n → length (cond b l m) ≤ n
@@ -97,7 +103,7 @@ module _ (w v text out : List ℕ) (splits : text ≡ w ++ v) (fits : length tex
   both : length w + length v ≤ length out
   both = omega (arith, simp length-append at (ap length splits))
 
-  pub front_fits : length w ≤ length out
+  front_fits : length w ≤ length out
   front_fits = omega (arith, both)
 
   module _ (l : List ℕ) (at : ℕ) (did : Wrote w at out l) where
@@ -131,25 +137,26 @@ module _ (w v text out : List ℕ) (splits : text ≡ w ++ v) (fits : length tex
               };
         }
 
--- fields behind others
-pub fields_split : (c : Cell) (cs : List Cell) (d : Cell) (ds : List Cell) (end : ℕ) → fields ((c ∷ cs) ++ (d ∷ ds)) end ≡ fields (c ∷ cs) tab ++ fields (d ∷ ds) end
+-- of two fields or more, the first and those behind it
+pub fields_first : (cs : List (Option ℕ)) (end : ℕ) → 2 ≤ length cs → fields cs end ≡ fields (slice_index_or cs 0 None ∷ []) tab ++ fields (take (length cs - 1) (drop 1 cs)) end
 unfolding fields
-fields_split c [] d ds end = simp append_assoc
-fields_split c (e ∷ cs) d ds end = rw (fields_split e cs d ds end) (simp append_assoc)
+fields_first [] end h = absurd (omega arith)
+fields_first (c ∷ []) end h = absurd (omega arith)
+fields_first (c ∷ d ∷ ds) end h = simp (append_assoc, take_all (suc (suc (length ds)) - 1) (d ∷ ds) (omega arith))
 
-pub field_length : (c : Cell) (end : ℕ) → length (fields (c ∷ []) end) ≡ length (cell_text c) + 1
-unfolding fields
-field_length c end = simp length-append
+-- and how long they are together
+pub fields_length : (cs : List (Option ℕ)) (end : ℕ) → 2 ≤ length cs → length (fields cs end) ≡ length (fields (slice_index_or cs 0 None ∷ []) tab) + length (fields (take (length cs - 1) (drop 1 cs)) end)
+fields_length cs end h = rw (fields_first cs end h) (length-append (fields (slice_index_or cs 0 None ∷ []) tab) _)
 
 -- cells: a number below 10 ^ (k + 1), a clock, a dash
-pub number_short : (k x : ℕ) → x < 10 ^ suc k → length (cell_text (Number x)) ≤ suc k
+pub number_short : (k x : ℕ) → x < 10 ^ suc k → length (cell_text (Some x)) ≤ suc k
 unfolding cell_text
 number_short k x h = digits-within k x h
 
-pub clock-short : (x : ℕ) → x ≤ 4294967295 → length (cell_text (Number x)) ≤ 10
+pub clock-short : (x : ℕ) → x ≤ 4294967295 → length (cell_text (Some x)) ≤ 10
 clock-short x h = number_short 9 x (omega arith)
 
-pub dash_short : length (cell_text Dash) ≤ 1
+pub dash_short : length (cell_text None) ≤ 1
 unfolding cell_text
 dash_short = omega arith
 
@@ -159,7 +166,7 @@ pub record_short : (r : Record) → r.step < 100000 → r.answer < 10 → length
 unfolding record_text fields
 record_short r s a b k p l h = simp length-append (omega (arith, number_short 4 r.step s, number_short 0 r.answer a))
 
-line-length : (word : List ℕ) (a b : ℕ) → length (word_line word a b) ≡ length word + length (cell_text (Number a)) + length (cell_text (Number b)) + 2
+line-length : (word : List ℕ) (a b : ℕ) → length (word_line word a b) ≡ length word + length (cell_text (Some a)) + length (cell_text (Some b)) + 2
 unfolding word_line fields
 line-length word a b = simp length-append (omega arith)
 

@@ -1,8 +1,6 @@
 -- The lines of the listing, as bytes.
-use Rattle.std.specs.Prelude.{List, [], ◌∷◌, ◌++◌, ℕ}
+use Rattle.std.specs.Prelude.{List, [], ◌∷◌, ◌++◌, ℕ, Option, Some, None}
 use Rattle.listing.specs.Write.{digits}
-use Rattle.listing.specs.declared.Cell.{Cell}
-use Rattle.listing.specs.declared.Cell.TheVariants.{Number, Dash}
 use Rattle.listing.specs.declared.Record.{Record}
 
 abbrev pub lf : ℕ
@@ -12,12 +10,12 @@ abbrev pub tab : ℕ
 tab = 9
 
 -- a field: a number, or `-`
-unfoldable pub cell_text : Cell → List ℕ
-cell_text (Number x) = digits x
-cell_text Dash = 45 ∷ []
+unfoldable pub cell_text : Option ℕ → List ℕ
+cell_text (Some x) = digits x
+cell_text None = 45 ∷ []
 
 -- fields with tabs between them, and the byte `end` after the last
-unfoldable pub fields : List Cell → ℕ → List ℕ
+unfoldable pub fields : List (Option ℕ) → ℕ → List ℕ
 fields [] end = []
 fields (c ∷ []) end = cell_text c ++ (end ∷ [])
 fields (c ∷ d ∷ ds) end = cell_text c ++ (tab ∷ fields (d ∷ ds) end)
@@ -25,11 +23,11 @@ fields (c ∷ d ∷ ds) end = cell_text c ++ (tab ∷ fields (d ∷ ds) end)
 -- a record: step number, answer, bench, its clock, phase and place, the holder
 unfoldable pub record_text : Record → List ℕ
 record_text r =
-    fields (Number r.step ∷ Number r.answer ∷ r.bench ∷ r.clock ∷ r.phase ∷ r.place ∷ r.holder ∷ []) lf
+    fields (Some r.step ∷ Some r.answer ∷ r.bench ∷ r.clock ∷ r.phase ∷ r.place ∷ r.holder ∷ []) lf
 
 -- a word, its tab with it, and two numbers
 unfoldable pub word_line : List ℕ → ℕ → ℕ → List ℕ
-word_line word a b = word ++ fields (Number a ∷ Number b ∷ []) lf
+word_line word a b = word ++ fields (Some a ∷ Some b ∷ []) lf
 
 -- the last line: `end`, steps taken, steps refused
 unfoldable pub end_text : ℕ → ℕ → List ℕ

@@ -6,109 +6,93 @@ ghost use Rattle.listing.specs.Write.{digits, Wrote};
 ghost use Rattle.listing.specs.Record.{cell_text, fields, record_text, word_line, end_text, refused_text};
 
 // x in decimal: the digits of x / 10, and the last one behind them.
+// By hand, since the contract names each byte that is written, and std's `write!` promises nothing of them.
+#[tactic(auto, using(crate::proofs::Laws::length_small, crate::proofs::Laws::length_large))]
 pub fn put_number(out: &mut [u8], x: usize) -> usize
     requires { length (digits x) ≤ length out.old }
     ensures { Wrote (digits x) result out.old out.new }
 {
-    let last = b'0' + (x % 10) as u8;
-    if x < 10 {
-        out[0] = last;
-        return 1;
-    }
-    let at = put_number(out, x / 10);
-    out[at] = last;
+    let at = if x < 10 { 0 } else { put_number(out, x / 10) };
+    out[at] = b'0' + (x % 10) as u8;
     at + 1
 }
 
-// What a field of the listing holds: a number, or nothing, which is written `-`.
-#[derive(Clone, Copy)]
-pub enum Cell {
-    Number(usize),
-    Dash,
-}
-
-pub fn put_cell(out: &mut [u8], c: Cell) -> usize
-    requires { length (cell_text c) ≤ length out.old }
-    ensures { Wrote (cell_text c) result out.old out.new }
+// A field of the listing: a number, or nothing, which is written `-`.
+#[tactic(auto, unfolding(crate::specs::Record::cell_text))]
+pub fn put_cell(out: &mut [u8], cell: Option<usize>) -> usize
+    requires { length (cell_text cell) ≤ length out.old }
+    ensures { Wrote (cell_text cell) result out.old out.new }
 {
-    match c {
-        Cell::Number(x) => put_number(out, x),
-        Cell::Dash => {
+    match cell {
+        Some(x) => put_number(out, x),
+        None => {
             out[0] = b'-';
             1
         }
     }
 }
 
-// ---- fields: tabs between them, and the byte `end` after the last
-
-fn put_one(out: &mut [u8], a: Cell, end: u8) -> usize
-    requires { length (fields (a ∷ []) end) ≤ length out.old }
-    ensures { Wrote (fields (a ∷ []) end) result out.old out.new }
+// A field and the byte behind it.
+#[tactic(auto, unfolding(crate::specs::Record::fields))]
+fn put_field(out: &mut [u8], cell: Option<usize>, behind: u8) -> usize
+    requires { length (fields (cell ∷ []) behind) ≤ length out.old }
+    ensures { Wrote (fields (cell ∷ []) behind) result out.old out.new }
 {
-    let at = put_cell(out, a);
-    out[at] = end;
+    let at = put_cell(out, cell);
+    out[at] = behind;
     at + 1
 }
 
-fn put_two(out: &mut [u8], a: Cell, b: Cell, end: u8) -> usize
-    requires { length (fields (a ∷ b ∷ []) end) ≤ length out.old }
-    ensures { Wrote (fields (a ∷ b ∷ []) end) result out.old out.new }
+// Fields with tabs between them, and the byte `end` after the last.
+#[tactic(auto, using(crate::proofs::Laws::fields_length))]
+fn put_fields(out: &mut [u8], cells: &[Option<usize>], end: u8) -> usize
+    requires { length (fields cells.now end) ≤ length out.old }
+    ensures { Wrote (fields cells.now end) result out.old out.new }
 {
-    let at = put_one(out, a, b'\t');
-    at + put_one(&mut out[at..], b, end)
+    match cells {
+        [] => 0,
+        [last] => put_field(out, *last, end),
+        [first, rest @ ..] => {
+            let at = put_field(out, *first, b'\t');
+            at + put_fields(&mut out[at..], rest, end)
+        }
+    }
 }
-
-fn put_three(out: &mut [u8], a: Cell, b: Cell, c: Cell, end: u8) -> usize
-    requires { length (fields (a ∷ b ∷ c ∷ []) end) ≤ length out.old }
-    ensures { Wrote (fields (a ∷ b ∷ c ∷ []) end) result out.old out.new }
-{
-    let at = put_one(out, a, b'\t');
-    at + put_two(&mut out[at..], b, c, end)
-}
-
-fn put_four(out: &mut [u8], a: Cell, b: Cell, c: Cell, d: Cell, end: u8) -> usize
-    requires { length (fields (a ∷ b ∷ c ∷ d ∷ []) end) ≤ length out.old }
-    ensures { Wrote (fields (a ∷ b ∷ c ∷ d ∷ []) end) result out.old out.new }
-{
-    let at = put_two(out, a, b, b'\t');
-    at + put_two(&mut out[at..], c, d, end)
-}
-
-// ---- lines
 
 // One line of the listing: the step's number from 1 and its answer, the bench with its clock, phase and place after the step, the holder.
 #[derive(Clone, Copy)]
 pub struct Record {
     pub step: usize,
     pub answer: usize,
-    pub bench: Cell,
-    pub clock: Cell,
-    pub phase: Cell,
-    pub place: Cell,
-    pub holder: Cell,
+    pub bench: Option<usize>,
+    pub clock: Option<usize>,
+    pub phase: Option<usize>,
+    pub place: Option<usize>,
+    pub holder: Option<usize>,
 }
 
+#[tactic(auto, unfolding(crate::specs::Record::record_text))]
 pub fn put_record(out: &mut [u8], r: Record) -> usize
     requires { length (record_text r) ≤ length out.old }
     ensures { Wrote (record_text r) result out.old out.new }
 {
-    let bench = r.bench;
-    let clock = r.clock;
-    let phase = r.phase;
-    let place = r.place;
-    let holder = r.holder;
-    let at = put_three(
+    put_fields(
         out,
-        Cell::Number(r.step),
-        Cell::Number(r.answer),
-        bench,
-        b'\t',
-    );
-    at + put_four(&mut out[at..], clock, phase, place, holder, b'\n')
+        &[
+            Some(r.step),
+            Some(r.answer),
+            r.bench,
+            r.clock,
+            r.phase,
+            r.place,
+            r.holder,
+        ],
+        b'\n',
+    )
 }
 
 // A word, copied.
+#[tactic(auto, unfolding(crate::specs::Write::over))]
 fn put_word(out: &mut [u8], word: &[u8]) -> usize
     requires { length word.now ≤ length out.old }
     ensures { Wrote word.now result out.old out.new }
@@ -117,16 +101,18 @@ fn put_word(out: &mut [u8], word: &[u8]) -> usize
     word.len()
 }
 
-// A word, its tab behind it, and two numbers.
+// A word, its tab with it, and two numbers: `put_end` and `put_refused` differ only in their word, so this is the one function behind both.
+#[tactic(auto, unfolding(crate::specs::Record::word_line))]
 fn put_line(out: &mut [u8], word: &[u8], a: usize, b: usize) -> usize
     requires { length (word_line word.now a b) ≤ length out.old }
     ensures { Wrote (word_line word.now a b) result out.old out.new }
 {
     let at = put_word(out, word);
-    at + put_two(&mut out[at..], Cell::Number(a), Cell::Number(b), b'\n')
+    at + put_fields(&mut out[at..], &[Some(a), Some(b)], b'\n')
 }
 
 // The last line of the listing: the steps taken, and those of them refused.
+#[tactic(auto, unfolding(crate::specs::Record::end_text))]
 pub fn put_end(out: &mut [u8], taken: usize, refused: usize) -> usize
     requires { length (end_text taken refused) ≤ length out.old }
     ensures { Wrote (end_text taken refused) result out.old out.new }
@@ -135,6 +121,7 @@ pub fn put_end(out: &mut [u8], taken: usize, refused: usize) -> usize
 }
 
 // What the program prints of a run that is refused: the number for no, and the line.
+#[tactic(auto, unfolding(crate::specs::Record::refused_text))]
 pub fn put_refused(out: &mut [u8], no: usize, line: usize) -> usize
     requires { length (refused_text no line) ≤ length out.old }
     ensures { Wrote (refused_text no line) result out.old out.new }
