@@ -1,3 +1,4 @@
 -- Laws that the proofs share.
-pub mod Lowest
+pub mod Chains
 pub mod Short
+pub mod Shown

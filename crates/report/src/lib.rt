@@ -1,100 +1,99 @@
 // What the listing says of a step: its bench with clock, phase and place, and who holds.
 #![tactic(auto)]
 
-ghost use Rattle.std.specs.Prelude.{◌≡◌, true, ◌<◌, ◌≤◌, length};
+ghost use Rattle.std.specs.Prelude.{◌≡◌, ◌<◌, ◌≤◌, length, Some};
+ghost use Rattle.std.specs.Option.{option_map, IfSome};
+ghost use Rattle.lamport.specs.Refusals.{answer_number};
 ghost use Rattle.lamport.specs.Steps.{actor as actor_of};
 ghost use Rattle.words.specs.View.{view};
-ghost use Rattle.words.specs.WellFormed.{well_formed};
 ghost use Rattle.listing.specs.Record.{record_text};
-ghost use Rattle.report.specs.Report.{earlier, place_of, place_cell, holder_cell, record_of};
+ghost use Rattle.report.specs.Report.{earlier, place_of, place_cell, holder_cell, unless_two, record_of};
 
-use lamport::{HOLDING, Step, WAITING, actor, comes_before, wide};
-use listing::{Cell, Record};
-use words::{WORDS, benches, clock, entry, phase};
+use lamport::{Phase, Refusal, Request, Step, actor, answer_number, comes_before};
+use listing::Record;
+use words::numbers::Bench;
+use words::tables::Table;
+use words::{benches, clock, entry, phase};
+
+// The request that stands for q in p's queue.
+fn request_of(t: &Table, p: Bench, q: Bench) -> Request
+    ensures stamp { result.stamp ≡ (view t.now.words).entry p.number q.number }
+    ensures bench { result.bench ≡ q.number }
+{
+    Request {
+        stamp: entry(&t.words, p, q),
+        bench: q.number,
+    }
+}
 
 // q has an entry in p's queue, and it comes before p's own.
-fn is_earlier(t: &[u32; WORDS], p: usize, q: usize) -> bool
-    requires p_bound { p < 8 }
-    requires q_bound { q < 8 }
-    ensures { result ≡ earlier (view t.now) p q }
+fn is_earlier(t: &Table, p: Bench, q: Bench) -> bool
+    ensures { result ≡ earlier (view t.now.words) p.number q.number }
 {
-    let other = entry(t, p, q);
-    other != 0 && comes_before(other, q, entry(t, p, p), p)
+    let other = request_of(t, p, q);
+    other.stamp != 0 && comes_before(other, request_of(t, p, p))
+}
+
+// How many benches there are, for each of which a table has room.
+fn bench_count(t: &Table) -> usize
+    ensures value { result ≡ (view t.now.words).benches }
+    ensures room { result ≤ 8 }
+{
+    benches(&t.words)
 }
 
 // One plus the number of entries in p's queue before its own.
-fn place(t: &[u32; WORDS], p: usize) -> usize
-    requires p_bound { p < 8 }
-    requires t_bound { (view t.now).benches ≤ 8 }
-    ensures { result ≡ place_of (view t.now) p }
+fn place(t: &Table, p: Bench) -> usize
+    ensures value { result ≡ place_of (view t.now.words) p.number }
+    ensures digit { result ≤ 9 }
 {
-    let n = benches(t);
-    let mut place: usize = 1;
-    let mut q: usize = 0;
-    while q < n {
-        if is_earlier(t, p, q) {
-            place += 1;
-        }
-        q += 1;
-    }
-    place
+    1 + (0..bench_count(t))
+        .filter(|q| is_earlier(t, p, Bench::new(*q)))
+        .count()
 }
 
 // The place of a bench that waits.
-fn place_cell(t: &[u32; WORDS], p: usize) -> Cell
-    requires p_bound { p < 8 }
-    requires t_bound { (view t.now).benches ≤ 8 }
-    ensures { result ≡ place_cell (view t.now) p }
+#[tactic(auto, unfolding(crate::specs::Report::place_cell))]
+fn place_cell(t: &Table, p: Bench) -> Option<usize>
+    ensures value { result ≡ place_cell (view t.now.words) p.number }
+    ensures digit { IfSome result (λ x. x ≤ 9) }
 {
-    if phase(t, p) == WAITING as usize {
-        return Cell::Number(place(t, p));
-    }
-    Cell::Dash
+    (phase(t, p) == Phase::Waiting).then(|| place(t, p))
 }
 
 // The lowest bench that holds.
-fn holder(t: &[u32; WORDS]) -> Cell
-    requires { (view t.now).benches ≤ 8 }
-    ensures { result ≡ holder_cell (view t.now) }
+fn holder(t: &Table) -> Option<usize>
+    ensures value { result ≡ holder_cell (view t.now.words) }
+    ensures digit { IfSome result (λ x. x ≤ 9) }
 {
-    let n = benches(t);
-    let mut q: usize = 0;
-    while q < n {
-        if phase(t, q) == HOLDING as usize {
-            return Cell::Number(q);
-        }
-        q += 1;
-    }
-    Cell::Dash
+    (0..bench_count(t)).find(|q| phase(t, Bench::new(*q)) == Phase::Holding)
 }
 
-// The line for the k-th step, s, answered `no`, from the table after it.
-pub fn record_of(t: &[u32; WORDS], k: usize, no: u32, s: Step) -> Record
-    requires t_bound { (view t.now).benches ≤ 8 }
-    requires s_bound { (no ≡ 2 → ⊥) → actor_of s < 8 }
-    ensures exact { result ≡ record_of k no s (view t.now) }
-    ensures short { well_formed t.now ≡ true → ((no ≡ 2 → ⊥) → actor_of s < (view t.now).benches) → k < 100000 → no < 10 → length (record_text result) ≤ 32 }
+// The bench that the line is about, unless the answer is that there is none.
+fn bench_shown(answer: Result<(), Refusal>, s: Step) -> Option<Bench>
+    requires present { (answer_number answer ≡ 2 → ⊥) → actor_of s < 8 }
+    ensures { option_map (λ p. p.number) result ≡ unless_two (answer_number answer) (Some (actor_of s)) }
 {
-    let holder = holder(t);
-    if no == 2 {
-        return Record {
-            step: k,
-            answer: wide(no),
-            bench: Cell::Dash,
-            clock: Cell::Dash,
-            phase: Cell::Dash,
-            place: Cell::Dash,
-            holder: holder,
-        };
+    match answer {
+        Err(Refusal::NoSuchBench) => None,
+        _ => Some(Bench::new(actor(s))),
     }
-    let p = actor(s);
+}
+
+// The line for the k-th step, s, which was answered so, from the table after it.
+pub fn record_of(t: &Table, k: usize, answer: Result<(), Refusal>, s: Step) -> Record
+    requires present { (answer_number answer ≡ 2 → ⊥) → actor_of s < 8 }
+    ensures exact { result ≡ record_of k (answer_number answer) s (view t.now.words) }
+    ensures short { ((answer_number answer ≡ 2 → ⊥) → actor_of s < (view t.now.words).benches) → k < 100000 → answer_number answer < 10 → length (record_text result) ≤ 32 }
+{
+    let bench = bench_shown(answer, s);
     Record {
         step: k,
-        answer: wide(no),
-        bench: Cell::Number(p),
-        clock: Cell::Number(wide(clock(t, p))),
-        phase: Cell::Number(phase(t, p)),
-        place: place_cell(t, p),
-        holder: holder,
+        answer: answer_number(answer) as usize,
+        bench: bench.map(|p| p.number),
+        clock: bench.map(|p| clock(&t.words, p) as usize),
+        phase: bench.map(|p| phase(t, p) as usize),
+        place: bench.and_then(|p| place_cell(t, p)),
+        holder: holder(t),
     }
 }
