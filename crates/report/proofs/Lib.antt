@@ -1,4 +1,3 @@
 -- Laws that the proofs share.
 pub mod Chains
 pub mod Short
-pub mod Shown

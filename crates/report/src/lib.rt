@@ -1,99 +1,116 @@
 // What the listing says of a step: its bench with clock, phase and place, and who holds.
 #![tactic(auto)]
 
-ghost use Rattle.std.specs.Prelude.{◌≡◌, ◌<◌, ◌≤◌, length, Some};
+ghost use Rattle.std.specs.Prelude.{◌≡◌, true, eqb, ◌<◌, ◌≤◌, length, Some};
 ghost use Rattle.std.specs.Option.{option_map, IfSome};
-ghost use Rattle.lamport.specs.Refusals.{answer_number};
 ghost use Rattle.lamport.specs.Steps.{actor as actor_of};
+ghost use Rattle.lamport.specs.Table.{phase_number};
 ghost use Rattle.words.specs.View.{view};
+ghost use Rattle.words.specs.WellFormed.{well_formed};
 ghost use Rattle.listing.specs.Record.{record_text};
 ghost use Rattle.report.specs.Report.{earlier, place_of, place_cell, holder_cell, unless_two, record_of};
 
-use lamport::{Phase, Refusal, Request, Step, actor, answer_number, comes_before};
+mod few;
+
+use few::Few;
+use lamport::{Phase, Refusal, Request, Step, actor, comes_before};
 use listing::Record;
 use words::numbers::Bench;
-use words::tables::Table;
-use words::{benches, clock, entry, phase};
+use words::{Words, clock, entry, phase_word};
 
 // The request that stands for q in p's queue.
-fn request_of(t: &Table, p: Bench, q: Bench) -> Request
-    ensures stamp { result.stamp ≡ (view t.now.words).entry p.number q.number }
+fn request_of(t: &Few, p: Bench, q: Bench) -> Request
+    ensures stamp { result.stamp ≡ (view t.now.words.now).entry p.number q.number }
     ensures bench { result.bench ≡ q.number }
 {
     Request {
-        stamp: entry(&t.words, p, q),
+        stamp: entry(t.words, p, q),
         bench: q.number,
     }
 }
 
 // q has an entry in p's queue, and it comes before p's own.
-fn is_earlier(t: &Table, p: Bench, q: Bench) -> bool
-    ensures { result ≡ earlier (view t.now.words) p.number q.number }
+fn is_earlier(t: &Few, p: Bench, q: Bench) -> bool
+    ensures { result ≡ earlier (view t.now.words.now) p.number q.number }
 {
     let other = request_of(t, p, q);
     other.stamp != 0 && comes_before(other, request_of(t, p, p))
 }
 
-// How many benches there are, for each of which a table has room.
-fn bench_count(t: &Table) -> usize
-    ensures value { result ≡ (view t.now.words).benches }
-    ensures room { result ≤ 8 }
-{
-    benches(&t.words)
-}
-
 // One plus the number of entries in p's queue before its own.
-fn place(t: &Table, p: Bench) -> usize
-    ensures value { result ≡ place_of (view t.now.words) p.number }
+fn place(t: &Few, p: Bench) -> usize
+    ensures value { result ≡ place_of (view t.now.words.now) p.number }
     ensures digit { result ≤ 9 }
 {
-    1 + (0..bench_count(t))
+    1 + (0..t.benches())
         .filter(|q| is_earlier(t, p, Bench::new(*q)))
         .count()
 }
 
+// p is in that phase.
+fn is_in(t: &Few, p: Bench, phase: Phase) -> bool
+    ensures { result ≡ eqb ((view t.now.words.now).phase p.number) (phase_number phase) }
+{
+    phase_word(t.words, p) == phase as u32
+}
+
 // The place of a bench that waits.
 #[tactic(auto, unfolding(crate::specs::Report::place_cell))]
-fn place_cell(t: &Table, p: Bench) -> Option<usize>
-    ensures value { result ≡ place_cell (view t.now.words) p.number }
+fn place_cell(t: &Few, p: Bench) -> Option<usize>
+    ensures value { result ≡ place_cell (view t.now.words.now) p.number }
     ensures digit { IfSome result (λ x. x ≤ 9) }
 {
-    (phase(t, p) == Phase::Waiting).then(|| place(t, p))
-}
-
-// The lowest bench that holds.
-fn holder(t: &Table) -> Option<usize>
-    ensures value { result ≡ holder_cell (view t.now.words) }
-    ensures digit { IfSome result (λ x. x ≤ 9) }
-{
-    (0..bench_count(t)).find(|q| phase(t, Bench::new(*q)) == Phase::Holding)
-}
-
-// The bench that the line is about, unless the answer is that there is none.
-fn bench_shown(answer: Result<(), Refusal>, s: Step) -> Option<Bench>
-    requires present { (answer_number answer ≡ 2 → ⊥) → actor_of s < 8 }
-    ensures { option_map (λ p. p.number) result ≡ unless_two (answer_number answer) (Some (actor_of s)) }
-{
-    match answer {
-        Err(Refusal::NoSuchBench) => None,
-        _ => Some(Bench::new(actor(s))),
+    if is_in(t, p, Phase::Waiting) {
+        Some(place(t, p))
+    } else {
+        None
     }
 }
 
-// The line for the k-th step, s, which was answered so, from the table after it.
-pub fn record_of(t: &Table, k: usize, answer: Result<(), Refusal>, s: Step) -> Record
-    requires present { (answer_number answer ≡ 2 → ⊥) → actor_of s < 8 }
-    ensures exact { result ≡ record_of k (answer_number answer) s (view t.now.words) }
-    ensures short { ((answer_number answer ≡ 2 → ⊥) → actor_of s < (view t.now.words).benches) → k < 100000 → answer_number answer < 10 → length (record_text result) ≤ 32 }
+// The lowest bench that holds.
+fn holder(t: &Few) -> Option<usize>
+    ensures value { result ≡ holder_cell (view t.now.words.now) }
+    ensures digit { IfSome result (λ x. x ≤ 9) }
 {
-    let bench = bench_shown(answer, s);
+    (0..t.benches()).find(|q| is_in(t, Bench::new(*q), Phase::Holding))
+}
+
+// The bench that the line is about, unless the answer is that there is none.
+fn bench_shown(no: u32, s: Step) -> Option<Bench>
+    requires present { (no ≡ 2 → ⊥) → actor_of s < 8 }
+    ensures { option_map (λ p. p.number) result ≡ unless_two no (Some (actor_of s)) }
+{
+    (no != Refusal::NoSuchBench as u32).then(|| Bench::new(actor(s)))
+}
+
+// The line for the k-th step, s, from the table after it. Its answer is given by its number, and the words need not be well formed: so `exact` promises.
+#[tactic(auto, unfolding(crate::specs::Report::record_of))]
+pub fn record_of(words: &Words, k: usize, no: u32, s: Step) -> Record
+    requires few { (view words.now).benches ≤ 8 }
+    requires present { (no ≡ 2 → ⊥) → actor_of s < 8 }
+    ensures exact { result ≡ record_of k no s (view words.now) }
+    ensures short { well_formed words.now ≡ true → ((no ≡ 2 → ⊥) → actor_of s < (view words.now).benches) → k < 100000 → no < 10 → length (record_text result) ≤ 32 }
+{
+    let t = &Few { words };
+    let holder = holder(t);
+    let Some(p) = bench_shown(no, s) else {
+        return Record {
+            step: k,
+            answer: no as usize,
+            bench: None,
+            clock: None,
+            phase: None,
+            place: None,
+            holder,
+        };
+    };
     Record {
         step: k,
-        answer: answer_number(answer) as usize,
-        bench: bench.map(|p| p.number),
-        clock: bench.map(|p| clock(&t.words, p) as usize),
-        phase: bench.map(|p| phase(t, p) as usize),
-        place: bench.and_then(|p| place_cell(t, p)),
-        holder: holder(t),
+        answer: no as usize,
+        bench: Some(p.number),
+        clock: Some(clock(words, p) as usize),
+        phase: Some(phase_word(words, p) as usize),
+        place: place_cell(t, p),
+        holder,
     }
 }

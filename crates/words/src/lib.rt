@@ -72,7 +72,8 @@ pub fn clock(t: &Words, p: Bench) -> u32
     t[CLOCKS + p.number]
 }
 
-fn phase_word(t: &Words, p: Bench) -> u32
+// The phase as its number, also of words that are not well formed.
+pub fn phase_word(t: &Words, p: Bench) -> u32
     ensures { result ≡ (view t.now).phase p.number }
 {
     t[PHASES + p.number]

@@ -1,0 +1,21 @@
+// Words that name no more benches than a table has room for: all that a line of the listing asks of them.
+
+ghost use Rattle.std.specs.Prelude.{◌≡◌, ◌≤◌};
+ghost use Rattle.words.specs.View.{view};
+
+use words::Words;
+
+#[derive(Clone, Copy)]
+pub struct Few<'a> {
+    pub words: &'a Words,
+    ghost few: { (view words.now).benches ≤ 8 },
+}
+
+impl Few<'_> {
+    pub fn benches(&self) -> usize
+        ensures value { result ≡ (view self.now.words.now).benches }
+        ensures room { result ≤ 8 }
+    {
+        words::benches(self.words)
+    }
+}
