@@ -1,4 +1,4 @@
--- What must be believed of a schedule: document 01, "Schedule and listing", and 9 and 10 of "Numbers for no".
+-- What must be believed of a schedule: how its text is read, and which refusal names the earliest line that is bad.
 pub mod Parts
 pub mod Number
 pub mod Lines

@@ -1,19 +1,17 @@
 -- A number is decimal, 0 to 4294967295, without sign or needless leading zero.
-use Rattle.std.specs.Prelude.{Bool, cond, ◌&&◌, ◌||◌, List, [], ◌∷◌, ℕ, ◌+◌, ◌-◌, ◌*◌, length, get_or, eqb, ltb}
-use Rattle.schedule.specs.declared.Number.{Number}
-use Rattle.schedule.specs.declared.Number.TheVariants.{Is, Bad}
+use Rattle.std.specs.Prelude.{Bool, cond, ◌&&◌, ◌||◌, List, [], ◌∷◌, ℕ, ◌+◌, ◌-◌, ◌*◌, Option, Some, None, length, get_or, eqb, ltb}
 
 -- a byte that is none of the ten digits
 abbrev pub no_digit : ℕ → Bool
 no_digit b = ltb b 48 || ltb 57 b
 
 -- a number with the digit b behind it
-unfoldable pub digit_on : Number → ℕ → Number
-digit_on Bad b = Bad
-digit_on (Is x) b = cond (no_digit b || ltb 4294967295 (x * 10 + (b - 48))) Bad (Is (x * 10 + (b - 48)))
+unfoldable pub digit_on : Option ℕ → ℕ → Option ℕ
+digit_on None b = None
+digit_on (Some x) b = cond (no_digit b || ltb 4294967295 (x * 10 + (b - 48))) None (Some (x * 10 + (b - 48)))
 
 -- a number with more digits behind it
-unfoldable pub grow : Number → List ℕ → Number
+unfoldable pub grow : Option ℕ → List ℕ → Option ℕ
 grow n [] = n
 grow n (b ∷ bs) = grow (digit_on n b) bs
 
@@ -22,5 +20,5 @@ unfoldable pub begins_ill : List ℕ → Bool
 begins_ill s = eqb (length s) 0 || (eqb (get_or s 0 0) 48 && ltb 1 (length s))
 
 -- the number that a field is
-unfoldable pub number_of : List ℕ → Number
-number_of s = cond (begins_ill s) Bad (grow (Is 0) s)
+unfoldable pub number_of : List ℕ → Option ℕ
+number_of s = cond (begins_ill s) None (grow (Some 0) s)

@@ -1,5 +1,5 @@
 -- How a text is parted: lines end in LF, fields are parted by one tab.
-use Rattle.std.specs.Prelude.{Bool, true, false, cond, List, [], ◌∷◌, ℕ, suc, eqb}
+use Rattle.std.specs.Prelude.{Bool, true, false, cond, List, [], ◌∷◌, ◌++◌, ◌≡◌, ℕ, suc, eqb}
 
 abbrev pub lf : ℕ
 lf = 10
@@ -21,6 +21,11 @@ on_first x (p ∷ ps) = (x ∷ p) ∷ ps
 unfoldable pub parts : ℕ → List ℕ → List (List ℕ)
 parts b [] = [] ∷ []
 parts b (x ∷ xs) = cond (eqb x b) ([] ∷ parts b xs) (on_first x (parts b xs))
+
+-- a text that is cut at its first b: what stands before it, and what follows
+pub record IsCut (b : ℕ) (text front rest : List ℕ) : Type 0 where
+  pub parted : parts b text ≡ front ∷ parts b rest
+  pub whole : text ≡ front ++ (b ∷ rest)
 
 -- how many b there are in a text
 unfoldable pub count : ℕ → List ℕ → ℕ

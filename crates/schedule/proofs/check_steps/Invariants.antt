@@ -1,16 +1,14 @@
--- The lines that are left decide, counted from k.
-use Rattle.std.proofs.Common.{◌≡◌, ◌≤◌, ◌+◌, ◌-◌, length, drop}
+-- The lines that are left decide, counted from `number`.
+use Rattle.std.proofs.Common.{◌≡◌, ◌≤◌, ◌+◌, Ok, length}
 use Rattle.schedule.specs.Parts.{lf, parts}
 use Rattle.schedule.specs.Schedule.{check_steps}
 use Rattle.schedule.proofs.check_steps.Given as goal
 
--- where the loop stands
-abbrev pub invariant-loop-at : goal.invariant-loop-at
-invariant-loop-at l = record {
-  in-s : l.at ≤ length l.schedule;
-  past : l.k + l.from ≤ l.at + 2;
-  rest : check_steps l.good l.k (parts lf (drop l.at l.schedule)) ≡ check_steps l.good 2 (parts lf (drop l.from l.schedule));
+abbrev pub invariant-loop-line : goal.invariant-loop-line
+invariant-loop-line l = record {
+  counted : l.number + length l.rest ≤ length l.text + 2;
+  left : check_steps (Ok (tt {0})) l.number (parts lf l.rest) ≡ check_steps (Ok (tt {0})) 2 (parts lf l.text);
 }
 
-abbrev pub decreases-loop-at : goal.decreases-loop-at
-decreases-loop-at l = length l.schedule - l.at
+abbrev pub decreases-loop-line : goal.decreases-loop-line
+decreases-loop-line l = length l.rest

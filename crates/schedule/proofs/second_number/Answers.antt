@@ -1,19 +1,11 @@
 use Rattle.std.proofs.Common.{sym, ◌∙◌}
 use Rattle.schedule.specs.Lines.{line_for}
-use Rattle.schedule.proofs.LineLaws.{reading-bad, reading-last, reading-next}
+use Rattle.schedule.proofs.LineLaws.{next_read, last_read}
 use Rattle.schedule.proofs.second_number.Goals as goal
 
-pub returns-in_default : goal.returns-in_default
-returns-in_default c =
-    sym (reading-bad _ _ _ _ c.field-next.ensures (sym c.number_of.ensures ∙ c.in_default.is))
+pub returns-in_ok-number_of-in-Some : goal.returns-in_ok-number_of-in-Some
+returns-in_ok-number_of-in-Some c = c.third_number.ensures ∙ sym (next_read _ _ _ c.in-Some.ensures (sym c.number_of.ensures ∙ c.in_ok-number_of-in-Some.was))
 
-pub returns-then-end-rest : goal.returns-then-end-rest
-returns-then-end-rest c =
-    c.third_number.ensures
-    ∙ sym (reading-next _ _ _ _ c.field-next.ensures (sym c.number_of.ensures ∙ c.in-Is.is) c.if-end-rest.true)
-
-pub returns : goal.returns
+pub returns-in_ok-number_of-in-None : goal.returns-in_ok-number_of-in-None
 unfolding line_for
-returns c =
-    c.two_benches.ensures
-    ∙ sym (reading-last _ _ _ _ c.field-next.ensures (sym c.number_of.ensures ∙ c.in-Is.is) c.if-end-rest.false)
+returns-in_ok-number_of-in-None c = c.two_benches.ensures ∙ sym (last_read _ _ _ c.in-None.ensures (sym c.number_of-in-None.ensures ∙ c.in_ok-number_of-in-None.was))

@@ -1,20 +1,8 @@
 use Rattle.std.proofs.Common.{sym, ◌∙◌}
 use Rattle.schedule.specs.Lines.{line_for}
-use Rattle.schedule.proofs.LineLaws.{reading-bad, reading-last, reading-next, reading-fourth}
+use Rattle.schedule.proofs.LineLaws.{last_read}
 use Rattle.schedule.proofs.third_number.Goals as goal
 
-pub returns-in_default : goal.returns-in_default
-returns-in_default c =
-    sym (reading-bad _ _ _ _ c.field-next.ensures (sym c.number_of.ensures ∙ c.in_default.is))
-
-pub returns-then-next-rest : goal.returns-then-next-rest
-returns-then-next-rest c =
-    sym
-    (reading-next _ _ _ _ c.field-next.ensures (sym c.number_of.ensures ∙ c.in-Is.is) c.if-next-rest.true
-    ∙ reading-fourth _ _ _ _ _)
-
-pub returns : goal.returns
+pub returns-in_ok-number_of-in-None : goal.returns-in_ok-number_of-in-None
 unfolding line_for
-returns c =
-    c.header.ensures
-    ∙ sym (reading-last _ _ _ _ c.field-next.ensures (sym c.number_of.ensures ∙ c.in-Is.is) c.if-next-rest.false)
+returns-in_ok-number_of-in-None c = c.header.ensures ∙ sym (last_read _ _ _ c.in-None.ensures (sym c.number_of.ensures ∙ c.in_ok-number_of-in-None.was))
