@@ -2,68 +2,67 @@
 use Prim.Native.Nat.{ℕ, ◌+◌, ◌*◌, ◌-◌, ◌≤◌, ◌<◌}
 use native.Mathlib.Omega.{arith}
 use mathlib.Core.Path.{◌≡◌}
-use mathlib.Core.Bool.{true}
 use mathlib.Core.List.{List, [], ◌∷◌, ◌++◌}
-use lib.ListN.{length, drop}
+use lib.ListN.{length}
+use Rattle.std.specs.Prelude.{Some}
 use Rattle.lamport.specs.Refusals.{answer, next}
 use Rattle.lamport.specs.declared.Step.{Step}
 use Rattle.words.specs.View.{view}
-use Rattle.words.specs.WellFormed.{well_formed}
 use Rattle.listing.specs.Write.{Wrote}
 use Rattle.listing.specs.Record.{record_text}
 use Rattle.report.specs.Report.{record_of}
-use Rattle.schedule.specs.Parts.{lf, parts, count}
+use Rattle.schedule.specs.Parts.{lf, parts, count, IsCut}
+use Rattle.schedule.specs.Lines.{line_of}
 use Rattle.schedule.specs.Schedule.{steps_of}
+use Rattle.schedule.specs.declared.Line.TheVariants as L
+use Rattle.schedule.proofs.PartsLaws.{length_cut, count_cut}
+use Rattle.schedule.proofs.ScheduleLaws.{steps_at_step}
 use Rattle.run.specs.Listing.{records, refused_one}
 use Rattle.run.specs.Run.{RanAs}
+use Rattle.run.specs.declared.Ran.{Ran}
 use Rattle.run.proofs.Records.{records-step, Makes, made-text, made-taken, made-refusals, makes-step}
 
--- the steps that are left at a place of the schedule
-abbrev pub steps_at : List ℕ → ℕ → List Step
-steps_at s at = steps_of (parts lf (drop at s))
+-- the steps that are left in what is left of the schedule
+abbrev pub steps_in : List ℕ → List Step
+steps_in text = steps_of (parts lf text)
 
--- at a line: `w` is written, there is room for each line to come, the table is well formed, and the records to come make the whole
-pub record Going (s : List ℕ) (from budget : ℕ) (t₀ out₀ t out : List ℕ) (at o k f : ℕ) : Type 0 where
+-- before a line: `w` is written, there is room for each line to come, and the records to come make the whole
+pub record Going (text : List ℕ) (budget : ℕ) (t₀ out₀ t out rest : List ℕ) (ran : Ran) : Type 0 where
   pub w : List ℕ
-  pub within : at ≤ length s
-  pub past : k + from ≤ at
-  pub fewer : f ≤ k
-  pub left : k ≤ budget
-  pub room : o + 32 * count lf (drop at s) ≤ 32 * count lf (drop from s)
-  pub wrote : Wrote w o out₀ out
-  pub formed : well_formed t ≡ true
-  pub makes : Makes w k f (records (k + 1) (budget - k) (view t) (steps_at s at)) (records 1 budget (view t₀) (steps_at s from))
+  pub past : ran.taken + length rest ≤ length text
+  pub fewer : ran.refused ≤ ran.taken
+  pub left : ran.taken ≤ budget
+  pub room : ran.bytes + 32 * count lf rest ≤ 32 * count lf text
+  pub wrote : Wrote w ran.bytes out₀ out
+  pub makes : Makes w ran.taken ran.refused (records (ran.taken + 1) (budget - ran.taken) (view t) (steps_in rest)) (records 1 budget (view t₀) (steps_in text))
 
-module _ {s : List ℕ} {from budget : ℕ} {t₀ out₀ t out : List ℕ} {at o k f : ℕ} (g : Going s from budget t₀ out₀ t out at o k f) where
+module _ {text : List ℕ} {budget : ℕ} {t₀ out₀ t out rest : List ℕ} {ran : Ran} (g : Going text budget t₀ out₀ t out rest ran) where
   -- where nothing is to come, the run is as it should be
-  pub ended : records (k + 1) (budget - k) (view t) (steps_at s at) ≡ [] → length s ≤ 12288 →
-      RanAs (records 1 budget (view t₀) (steps_at s from)) (record { taken = k; refused = f; bytes = o }) out₀ out
-      × ((o ≤ 32 * count lf (drop from s)) × ((k < 100000) × (f < 100000)))
+  pub ended : records (ran.taken + 1) (budget - ran.taken) (view t) (steps_in rest) ≡ [] → length text ≤ 12288 →
+      RanAs (records 1 budget (view t₀) (steps_in text)) ran out₀ out
+      × ((ran.bytes ≤ 32 * count lf text) × ((ran.taken < 100000) × (ran.refused < 100000)))
   ended e h = (
     record {
       taken = made-taken e g.makes;
       refusals = made-refusals e g.makes;
       wrote = rw (← made-text e g.makes) g.wrote;
     },
-    (omega (arith, g.room), (omega (arith, g.past, g.within), omega (arith, g.past, g.within, g.fewer))),
+    (omega (arith, g.room), (omega (arith, g.past), omega (arith, g.past, g.fewer))),
   )
 
-  -- the step x, whose line ends at e, is answered `a`; n bytes are written, and the words u are left
-  pub go_on : (x : Step) (e n a q : ℕ) (u out' : List ℕ) →
-      at ≤ e → e < length s → count lf (drop at s) ≡ count lf (drop (e + 1) s) + 1 → steps_at s at ≡ x ∷ steps_at s (e + 1) → (k ≡ budget → ⊥) →
-      a ≡ answer (view t) x → view u ≡ next (view t) x → well_formed u ≡ true → q ≡ refused_one a → q ≤ 1 → n ≤ 32 →
-      Wrote (g.w ++ record_text (record_of (k + 1) (answer (view t) x) x (next (view t) x))) (o + n) out₀ out' →
-      Going s from budget t₀ out₀ u out' (e + 1) (o + n) (k + 1) (f + q)
+  -- the step x of a line that is cut off is answered `a`; n bytes are written, and the words u are left
+  pub go_on : {line after : List ℕ} {x : Step} (a n q : ℕ) (u out' : List ℕ) → IsCut lf rest line after → line_of line ≡ Some (L.Step x) → ran.taken < budget →
+      a ≡ answer (view t) x → view u ≡ next (view t) x → q ≡ refused_one a → q ≤ 1 → n ≤ 32 →
+      Wrote (g.w ++ record_text (record_of (ran.taken + 1) (answer (view t) x) x (next (view t) x))) (ran.bytes + n) out₀ out' →
+      Going text budget t₀ out₀ u out' after (record { taken = ran.taken + 1; refused = ran.refused + q; bytes = ran.bytes + n })
   unfolding record_of
-  go_on x e n a q u out' ae es cn ss nb an re fo qi q1 n32 wrote =
+  go_on {line} {after} {x} a n q u out' cut says nb an re qi q1 n32 wrote =
       record {
-        w = g.w ++ record_text (record_of (k + 1) (answer (view t) x) x (next (view t) x));
-        within = omega arith;
-        past = omega (arith, g.past);
+        w = g.w ++ record_text (record_of (ran.taken + 1) (answer (view t) x) x (next (view t) x));
+        past = omega (arith, g.past, length_cut cut);
         fewer = omega (arith, g.fewer);
         left = omega (arith, g.left, nb);
-        room = omega (arith, g.room);
+        room = omega (arith, g.room, count_cut cut);
         wrote = wrote;
-        formed = fo;
-        makes = rw (qi, an, re) (makes-step (rw (ss, records-step k budget (view t) x (steps_at s (e + 1)) g.left nb) at g.makes));
+        makes = rw (qi, an, re) (makes-step (rw (steps_at_step rest cut says, records-step ran.taken budget (view t) x (steps_in after) g.left (λ e. omega arith)) at g.makes));
       }
