@@ -1,4 +1,4 @@
-use Rattle.std.proofs.Common.{◌≡◌, ◌≤◌, ◌+◌, List, [], ◌++◌, ℕ, length, Some, rules, refl, sym, ◌∙◌, arith, length-drop, length-take, length-append}
+use Rattle.std.proofs.Common.{◌≡◌, ◌≤◌, ◌+◌, List, [], ◌++◌, ℕ, length, Some, rules, refl, arith, length-drop, length-take, length-append}
 use Rattle.std.proofs.Math.Nat.{sub-zero}
 use Rattle.lamport.specs.Refusals.{answer_number, answer, next}
 use Rattle.words.specs.View.{view}
@@ -18,8 +18,8 @@ use Rattle.run.proofs.Going.{steps_in, Going, ended, go_on}
 use Rattle.run.proofs.run_lines.Goals as goal
 
 -- where no step is left, the run is as it should be
-over : {text : List ℕ} {budget : ℕ} {t₀ out₀ t out rest : List ℕ} {ran : Ran} → Going text budget t₀ out₀ t out rest ran → steps_in rest ≡ [] → length text ≤ 12288 → RanAs (records 1 budget (view t₀) (steps_in text)) ran out₀ out
-over g e h = (ended g (rw e (records-end _ _ _)) h).0
+finished : {text : List ℕ} {budget : ℕ} {t₀ out₀ t out rest : List ℕ} {ran : Ran} → Going text budget t₀ out₀ t out rest ran → steps_in rest ≡ [] → length text ≤ 12288 → RanAs (records 1 budget (view t₀) (steps_in text)) ran out₀ out
+finished g e h = (ended g (rw e (records-end _ _ _)) h).0
 
 pub loop-ran-init : goal.loop-ran-init
 unfolding over
@@ -36,15 +36,15 @@ loop-ran-init c =
 
 pub returns-in_default-clause-exact : goal.returns-in_default-clause-exact
 returns-in_default-clause-exact c =
-    over c.loop-ran.invariant (steps_uncut _ c.in_default.ensures) c.requires.short
+    finished c.loop-ran.invariant (steps_uncut _ c.in_default.ensures) c.requires.short
 
 pub returns-in_default-line_of-clause-exact : goal.returns-in_default-line_of-clause-exact
 returns-in_default-line_of-clause-exact c =
-    over c.loop-ran.invariant (grind (arith, stepping)) c.requires.short
+    finished c.loop-ran.invariant (grind (arith, stepping)) c.requires.short
 
 pub returns-in_default-line_of-2-clause-exact : goal.returns-in_default-line_of-2-clause-exact
 returns-in_default-line_of-2-clause-exact c =
-    over c.loop-ran.invariant (grind (arith, stepping)) c.requires.short
+    finished c.loop-ran.invariant (grind (arith, stepping)) c.requires.short
 
 pub take_step-turn-requires-clause-room : goal.take_step-turn-requires-clause-room
 take_step-turn-requires-clause-room c =

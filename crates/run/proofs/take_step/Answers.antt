@@ -1,4 +1,4 @@
-use Rattle.std.proofs.Common.{◌≡◌, ◌≤◌, ◌<◌, ℕ, List, length, true, ◌∙◌, refl, arith}
+use Rattle.std.proofs.Common.{◌≡◌, ◌≤◌, ◌<◌, ℕ, List, length, true, ◌∙◌, arith}
 use Rattle.lamport.specs.declared.Step.{Step}
 use Rattle.lamport.specs.Steps.{actor}
 use Rattle.lamport.proofs.Granted.{next-benches}
