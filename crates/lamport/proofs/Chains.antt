@@ -22,7 +22,7 @@ one_more (suc n) a =
     let e : a + 1 + n ≡ a + suc n = omega arith in
     ap (λ l. a ∷ l) (one_more n (a + 1) ∙ ap (λ x. range_with_len (a + 1) n ++ x ∷ []) e)
 
-last_below : (n : ℕ) → range_with_len 0 (suc n) ≡ range_with_len 0 n ++ n ∷ []
+pub last_below : (n : ℕ) → range_with_len 0 (suc n) ≡ range_with_len 0 n ++ n ∷ []
 last_below n = let e : 0 + n ≡ n = omega arith in one_more n 0 ∙ ap (λ x. range_with_len 0 n ++ x ∷ []) e
 
 module _ (test : ℕ → Bool) where

@@ -1,4 +1,4 @@
--- What must be believed of the rules: document 01, "The table", "Order of stamps", "The five steps", "Numbers for no".
+-- What must be believed of the rules: the table, the order of stamps, the five steps, the numbers for no.
 pub mod Each
 pub mod Order
 pub mod Table

@@ -15,7 +15,7 @@ limit = 4294967295
 abbrev pub before : ℕ → ℕ → ℕ → ℕ → Bool
 before T p U q = ltb T U || (eqb T U && ltb p q)
 
--- ---- clocks: LC1 and LC2 of source document 004
+-- ---- clocks: LC1 and LC2
 
 -- LC1, of an event that is no receipt
 abbrev pub lc1 : ℕ → ℕ
@@ -43,7 +43,7 @@ entry_after Request t e = t
 entry_after Ack t e = e
 entry_after Release t e = 0
 
--- ---- the entry rule: rule 5 of source document 000, for bench p of n, by its own queue and what it has heard
+-- ---- the entry rule: Lamport's fifth rule, for bench p of n, by its own queue and what it has heard
 
 -- q has no entry, or p's own comes before it
 abbrev pub ahead : ℕ → (ℕ → ℕ) → ℕ → Bool

@@ -1,4 +1,4 @@
--- The twelve starred cases of document 01, "Both sides of each line", as one list.
+-- Twelve cases, on both sides of the limits that the rules set, as one list.
 use Rattle.std.specs.Prelude.{ℕ, ◌≡◌, List, [], ◌∷◌}
 use Rattle.lamport.specs.Table.{fresh, sizes_answer}
 use Rattle.lamport.specs.Refusals.{answers, after}

@@ -212,6 +212,7 @@ pub fn own_first(n: usize, p: usize, queue: &[u32]) -> bool
 }
 
 // p, whose own stamp is `own`, has heard late enough from q.
+#[tactic(auto, unfolding(crate::specs::Order::late_enough))]
 pub fn late_enough(p: usize, q: usize, own: u32, heard: u32) -> bool
     ensures { result ≡ late_enough p q own heard }
 {
@@ -227,6 +228,7 @@ pub fn heard_all(n: usize, p: usize, own: u32, heard: &[u32]) -> bool
 }
 
 // Whether p, of n benches, may enter: by its own queue, and by what it has heard.
+#[tactic(auto, unfolding(crate::specs::Order::entry_rule))]
 pub fn may_enter(n: usize, p: usize, queue: &[u32], heard: &[u32]) -> bool
     requires present { p < n }
     requires queue_row { n ≤ length queue.now }
@@ -247,6 +249,7 @@ const GRID: [[bool; 3]; 5] = [
     [true, true, true],
 ];
 
+// A step has benches with it, so it can't be cast to its row.
 fn row(s: Step) -> usize
     ensures { result ≡ row_of s }
 {

@@ -1,4 +1,4 @@
-// The listing as text. Each writer puts its text over the front of `out`, answers how long the text is, and leaves the bytes after it.
+// The listing as text. Each writer puts its text over the front of `out`, answers how long the text is, and leaves the bytes after it. The caller lends the bytes, and there is no heap for a String.
 #![tactic(auto)]
 
 ghost use Rattle.std.specs.Prelude.{◌≤◌, [], ◌∷◌, length};

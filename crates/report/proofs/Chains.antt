@@ -1,10 +1,9 @@
 -- What a chain over the numbers below n counts, and what it finds first.
 use Prim.Native.Nat.{ℕ, zero, suc, ◌+◌}
 use native.Mathlib.Omega.{arith}
-use native.Mathlib.Numerals.{add-one}
 use mathlib.Core.Path.{◌≡◌, refl, sym, ap, ◌∙◌}
 use mathlib.Core.Bool.{Bool, true, false, cond}
-use mathlib.Core.List.{List, [], ◌∷◌, ◌++◌}
+use mathlib.Core.List.{List, [], ◌∷◌}
 use denote.Param.Members.{Mut}
 use denote.Ref.{Bor}
 use lib.Dec.{eqb}
@@ -23,17 +22,12 @@ use Rattle.std.proofs.lemmas.Iterator.{YieldsList-from_range}
 use Rattle.std.proofs.lemmas.Iterator.Adapters.{option_map_id}
 use Rattle.std.proofs.lemmas.Iterator.Consumers.{count_from_yields_List, YieldsList-from_filter}
 use Rattle.std.proofs.lemmas.Iterator.Search.{find_from_yields_List}
-use Rattle.std.proofs.lemmas.List.{map-id}
 use Rattle.std.proofs.lemmas.List.Folds.{find-append}
-use Rattle.std.proofs.lemmas.List.FromFn.{map-range_with_len_more}
 use Rattle.std.proofs.lemmas.List.Sums.{length-filter, sum_by_push}
 use Rattle.lamport.specs.Each.{count_below}
 use Rattle.lamport.specs.Table.{Table, holding}
+use Rattle.lamport.proofs.Chains.{last_below}
 use Rattle.report.specs.Report.{holder_below}
-
-last_below : (n : ℕ) → range_with_len 0 (suc n) ≡ range_with_len 0 n ++ n ∷ []
-last_below n =
-    rw (map-id (range_with_len 0 (n + 1)), map-id (range_with_len 0 n), add-one) at (map-range_with_len_more (λ (x : ℕ). x) 0 n n (omega arith))
 
 count-below : (test : ℕ → Bool) (n : ℕ) → count_by test (range_with_len 0 n) ≡ count_below test n
 unfolding count_below

@@ -4,9 +4,8 @@ use mathlib.Core.Bool.{Bool, true, false, cond}
 use mathlib.Core.List.{List, [], ◌∷◌}
 use Prim.Native.Nat.{ℕ, suc, ◌+◌, ◌≤◌, ◌<◌}
 use native.Mathlib.Omega.{arith}
-use lib.ListN.{length, drop, take, get_or, length-drop, length-append}
+use lib.ListN.{length, drop, take, get_or, length-append}
 use lib.Dec.{eqb}
-use lib.Seq.{drop-drop}
 use Rattle.std.specs.Prelude.{Option, Some, None}
 use Rattle.std.specs.List.{slice_split, onto_first, position, position_or_len, count_by}
 use Rattle.std.proofs.lemmas.Bool.Decides.{nat_tests}
@@ -121,23 +120,3 @@ module _ {b : ℕ} {s f rest : List ℕ} (cut : IsCut b s f rest) where
 
   pub length_cut : length s ≡ length f + length rest + 1
   length_cut = omega (arith, simp length-append at (ap length cut.whole))
-
--- the part that begins at `at` and ends at e, before the next b or where s ends
-module _ (b : ℕ) (s : List ℕ) (at e : ℕ) (is : e ≡ at + length (up_to b (drop at s))) where
-  ends_in : at ≤ length s → e ≤ length s
-  ends_in a = omega (arith, length-drop at s, up_to-short b (drop at s))
-
-  pub ends_within : at ≤ length s → (e ≡ length s → ⊥) → e < length s
-  ends_within a h = omega (arith, ends_in a, h)
-
-  -- it is the last, or more follow
-  pub last-at : at ≤ length s → e ≡ length s → parts b (drop at s) ≡ drop at s ∷ []
-  last-at a h = parts-one b (drop at s) (omega (arith, length-drop at s))
-
-  pub cut_at : e < length s → parts b (drop at s) ≡ up_to b (drop at s) ∷ parts b (drop (e + 1) s)
-  cut_at h =
-      let n : at + (length (up_to b (drop at s)) + 1) ≡ e + 1 = omega arith in
-      rw (drop-drop, n) at (parts_cut b (drop at s) (omega (arith, length-drop at s)))
-
-  pub count-line : e < length s → count b (drop at s) ≡ count b (drop (e + 1) s) + 1
-  count-line h = omega (arith, parts-count b (drop at s), parts-count b (drop (e + 1) s), ap length (cut_at h))

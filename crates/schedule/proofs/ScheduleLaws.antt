@@ -3,12 +3,11 @@ use mathlib.Core.Bool.{Bool, true, false, cond}
 use mathlib.Core.List.{List, [], ◌∷◌}
 use mathlib.Core.Logic.{⊎_elim}
 use mathlib.Core.Path.{◌≡◌, refl, ◌∙◌}
-use Prim.Native.Nat.{ℕ, suc, ◌+◌, ◌≤◌, ◌<◌}
+use Prim.Native.Nat.{ℕ, suc, ◌+◌, ◌<◌}
 use native.Mathlib.Nat.{eq-or-lt_of_le}
 use native.Mathlib.Numerals.{add-one}
-use native.Mathlib.Omega.{arith}
 use lib.Dec.{eqb}
-use lib.ListN.{length, drop}
+use lib.ListN.{length}
 use Rattle.std.specs.Prelude.{Option, Some, None, Result, Ok, Err}
 use Rattle.std.specs.Result.{result_map_both}
 use Rattle.lamport.specs.Table.{sizes_ok}
@@ -20,14 +19,7 @@ use Rattle.schedule.specs.Schedule.{if_step, bad_line, bad_sizes, check_steps, c
 use Rattle.schedule.specs.declared.Line.{Line}
 use Rattle.schedule.specs.declared.Line.TheVariants as L
 use Rattle.schedule.specs.declared.Refused.{Refused}
-use Rattle.schedule.proofs.PartsLaws.{up_to-short, parts-cons, parts-one, length_cut, count_cut, last-at, cut_at}
-
--- a line that is no step
-pub unlike_step : {A : Type 0} (l : Option Line) (f : Step → A) (other : A) → ((x : Step) → l ≡ Some (L.Step x) → ⊥) → if_step l f other ≡ other
-unfolding if_step
-unlike_step (Some (L.Header setup)) f other h = refl
-unlike_step (Some (L.Step x)) f other h = absurd (h x refl)
-unlike_step None f other h = refl
+use Rattle.schedule.proofs.PartsLaws.{up_to-short, parts-cons, parts-one, length_cut, count_cut}
 
 -- a line in front of what follows its LF, which is one part or more
 module _ (s l rest : List ℕ) (parted : parts lf s ≡ l ∷ parts lf rest) where
@@ -138,15 +130,3 @@ pub ruleset heading = (heads_bad, heads_step, heads_ill, heads_good, heads_refus
 -- a good schedule has a first line
 pub check_good : (s : List ℕ) {setup : Setup} → check_of s ≡ Ok setup → length (up_to lf s) < length s
 check_good s p = ⊎_elim (λ e. absurd (let r = check_empty s (parts-one lf s e) in cc)) (λ h. h) (eq-or-lt_of_le (up_to-short lf s))
-
--- nothing is left
-pub steps_none : (s : List ℕ) → length s ≡ 0 → steps_of (parts lf s) ≡ []
-steps_none s e = steps_uncut s (parts-one lf s (omega (arith, up_to-short lf s)))
-
--- the line at `at`, which ends at e: where the text ends, with no LF, or before
-module _ (s : List ℕ) (at e : ℕ) (is : e ≡ at + length (up_to lf (drop at s))) where
-  pub steps_open : at ≤ length s → e ≡ length s → steps_of (parts lf (drop at s)) ≡ []
-  steps_open h f = steps_uncut (drop at s) (last-at lf s at e is h f)
-
-  pub steps_line : e < length s → steps_of (parts lf (drop at s)) ≡ on_step (line_of (up_to lf (drop at s))) (steps_of (parts lf (drop (e + 1) s)))
-  steps_line h = steps_cons (drop at s) _ (drop (e + 1) s) (cut_at lf s at e is h)

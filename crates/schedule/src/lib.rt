@@ -144,7 +144,7 @@ fn two_benches(word: &[u8], p: u32, q: u32) -> Option<Line>
     }
 }
 
-// The line's word is read; `rest` is what follows its tab.
+// The line's word is read; `rest` is what follows its tab. The three that read a number are no twins: each ends a line in its own way.
 #[tactic(auto, using(crate::proofs::LineLaws::reading_laws), unfolding(crate::specs::Lines::line_for))]
 fn first_number(word: &[u8], rest: &[u8]) -> Option<Line>
     ensures { result ≡ reading word.now [] (parts tab rest.now) }
@@ -211,6 +211,7 @@ fn check_steps(text: &[u8]) -> Result<(), Refused>
     ensures { result ≡ check_steps (Ok tt) 2 (parts lf text.now) }
 {
     let mut rest = text;
+    // The number is counted by hand: it is what a refusal gives, and the loop goes over what is left of the text.
     let mut number = 2;
     while let Some((line, after)) = cut_line(rest) {
         let Some(Line::Step(_)) = line_of(line) else {

@@ -1,4 +1,4 @@
-// The changes that the five steps make, in place. Each asks for what the refusals have shown before.
+// The changes that the five steps make, in place. Each asks for what the refusals have shown before, in clauses: a type that holds it would be false after the first write.
 #![tactic(auto)]
 
 ghost use Rattle.std.specs.Prelude.{◌≡◌, ◌<◌, ◌≤◌};

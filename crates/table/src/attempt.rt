@@ -2,7 +2,7 @@
 
 ghost use Rattle.std.specs.Prelude.{◌≡◌, false, length};
 ghost use Rattle.lamport.specs.Steps.{actor as actor_of};
-ghost use Rattle.lamport.specs.Refusals.{outside, not_admitted, nothing_there, not_yet, no_room, clock_then, clock_spent};
+ghost use Rattle.lamport.specs.Refusals.{outside, not_admitted, nothing_there, not_yet, no_room, clock_then};
 ghost use Rattle.words.specs.View.{view};
 
 use crate::{any_full, may_enter, no_reply};
@@ -10,9 +10,6 @@ use lamport::{Step, actor, admits, clock_after, lc1};
 use words::numbers::Bench;
 use words::tables::Table;
 use words::{clock, count, oldest, phase};
-
-// The largest clock.
-const LIMIT: usize = 4294967295;
 
 #[derive(Clone, Copy)]
 pub struct Attempt<'a> {
@@ -68,8 +65,8 @@ impl Attempt<'_> {
         }
     }
 
-    // The clock of the step's bench, were it done.
-    fn clock_then(&self) -> usize
+    // What the clock of the step's bench would be, were the step done.
+    pub fn clock_then(&self) -> usize
         requires something { nothing_there (view self.now.table.now.words) self.now.step ≡ false }
         ensures { result ≡ clock_then (view self.now.table.now.words) self.now.step }
     {
@@ -80,13 +77,5 @@ impl Attempt<'_> {
             Step::Carry(p, _) => clock_after(clock, oldest(t, Bench::new(p), bench)),
             Step::Ask(_) | Step::Enter(_) | Step::Leave(_) | Step::Mark(_) => lc1(clock),
         }
-    }
-
-    // 8: a clock would pass the limit.
-    pub fn is_spent(&self) -> bool
-        requires something { nothing_there (view self.now.table.now.words) self.now.step ≡ false }
-        ensures { result ≡ clock_spent (view self.now.table.now.words) self.now.step }
-    {
-        LIMIT < self.clock_then()
     }
 }

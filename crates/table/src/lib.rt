@@ -16,6 +16,9 @@ use words::numbers::Bench;
 use words::tables::Table;
 use words::{BENCHES, CAPACITY, WORDS, Words, capacity, count, hearing, oldest, queue};
 
+// The largest clock.
+const LIMIT: usize = u32::MAX as usize;
+
 // ---- the numbers for no
 
 // 2: a bench number is n or more.
@@ -87,7 +90,8 @@ fn check(t: &Table, s: Step) -> Result<(), Refusal>
     if attempt.has_no_room() {
         return Err(Refusal::ChannelFull);
     }
-    if attempt.is_spent() {
+    // 8: a clock would pass the limit.
+    if LIMIT < attempt.clock_then() {
         return Err(Refusal::ClockSpent);
     }
     Ok(())
@@ -95,7 +99,7 @@ fn check(t: &Table, s: Step) -> Result<(), Refusal>
 
 // ---- the entry points
 
-// Stores what the rules say. Between its writes the words are no table.
+// Stores what the rules say; between its writes the words are no table. The match names each step, which a table of functions would not.
 fn apply(words: &mut Words, s: Step)
     requires formed { well_formed words.old ≡ true }
     requires done { answer (view words.old) s ≡ 0 }

@@ -1,4 +1,4 @@
--- Which words are well formed: document 01, "The table", clause by clause.
+-- Which words are well formed, clause by clause.
 use Rattle.std.specs.Prelude.{ℕ, Bool, cond, not, ◌&&◌, ◌||◌, List, ltb, leb, eqb, length}
 use Rattle.lamport.specs.Each.{all_below}
 use Rattle.lamport.specs.Table.{Table, idle, holding, sizes_ok}

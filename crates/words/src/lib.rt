@@ -48,6 +48,7 @@ pub const STAMPS: usize = KINDS + 1;
 
 pub const WORDS: usize = KINDS + MOST * MOST * CHANNEL;
 
+// The caller lends a table as plain words: an array has no methods of its own, and a struct round it would have to be copied. Words that are known to be a table are a tables::Table.
 pub type Words = [u32; WORDS];
 
 // ---- what a table reads
@@ -66,6 +67,7 @@ pub fn capacity(t: &Words) -> u32
     t[CAPACITY]
 }
 
+// Each is one index: one function for both would be no shorter than the index.
 pub fn clock(t: &Words, p: Bench) -> u32
     ensures { result ≡ (view t.now).clock p.number }
 {
