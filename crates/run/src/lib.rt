@@ -9,9 +9,11 @@ ghost use Rattle.schedule.specs.Schedule.{steps_of};
 ghost use Rattle.run.specs.Listing.{refused_one, records};
 ghost use Rattle.run.specs.Run.{Turned, RanAs};
 
+mod own;
+
 use lamport::{Refusal, Step, answer_number};
+use own::Own;
 use schedule::Line;
-use words::tables::Table;
 
 // ---- one step
 
@@ -23,12 +25,12 @@ pub struct Turn {
 }
 
 // Takes the k-th step, and writes its record over the front of `out`.
-fn take_step(t: &mut Table, k: usize, x: Step, out: &mut [u8]) -> Turn
+fn take_step(t: &mut Own, k: usize, x: Step, out: &mut [u8]) -> Turn
     requires number { k < 100000 }
     requires room { 32 ≤ length out.old }
     ensures { Turned t.old.words k x result t.new.words out.old out.new }
 {
-    let answer = table::step_formed(t, x);
+    let answer = table::step_formed(&mut t.words, x);
     let r = report::record_of(&t.words, k, answer_number(answer), x);
     Turn {
         answer,
@@ -54,7 +56,7 @@ pub struct Ran {
 }
 
 // Takes the steps of the lines of the text, at most `budget` of them. Each record goes into the rest that the one before has left.
-fn run_lines(text: &[u8], budget: usize, t: &mut Table, out: &mut [u8]) -> Ran
+fn run_lines(text: &[u8], budget: usize, t: &mut Own, out: &mut [u8]) -> Ran
     requires short { length text.now ≤ 12288 }
     requires room { 32 * count_of lf text.now ≤ length out.old }
     ensures exact { RanAs (records 1 budget (view t.old.words) (steps_of (parts lf text.now))) result out.old out.new }

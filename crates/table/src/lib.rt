@@ -14,7 +14,9 @@ use lamport::{Refusal, Setup, Step, actor, is_request, is_to_itself, sizes_ok};
 use store::{ask, carry, enter, leave, mark};
 use words::numbers::Bench;
 use words::tables::Table;
-use words::{BENCHES, CAPACITY, WORDS, Words, capacity, count, hearing, oldest, queue};
+use words::{
+    BENCHES, CAPACITY, WORDS, Words, capacity, count, hearing, oldest, queue, well_formed,
+};
 
 // The largest clock.
 const LIMIT: usize = u32::MAX as usize;
@@ -23,7 +25,7 @@ const LIMIT: usize = u32::MAX as usize;
 
 // 2: a bench number is n or more.
 fn is_outside(t: &Table, s: Step) -> bool
-    ensures { result ≡ outside (view t.now.words) s }
+    ensures { result ≡ outside (view t.now.words.now) s }
 {
     let n = t.benches();
     match s {
@@ -34,42 +36,42 @@ fn is_outside(t: &Table, s: Step) -> bool
 
 // The entry rule, for bench p of the table.
 fn may_enter(t: &Table, p: Bench) -> bool
-    requires present { p.number < (view t.now.words).benches }
-    ensures { result ≡ may_enter (view t.now.words) p.number }
+    requires present { p.number < (view t.now.words.now).benches }
+    ensures { result ≡ may_enter (view t.now.words.now) p.number }
 {
     lamport::may_enter(
         t.benches(),
         p.number,
-        queue(&t.words, p),
-        hearing(&t.words, p),
+        queue(t.words, p),
+        hearing(t.words, p),
     )
 }
 
 fn is_full(t: &Table, p: Bench, q: Bench) -> bool
-    ensures { result ≡ full (view t.now.words) p.number q.number }
+    ensures { result ≡ full (view t.now.words.now) p.number q.number }
 {
-    capacity(&t.words) <= count(&t.words, p, q)
+    capacity(t.words) <= count(t.words, p, q)
 }
 
 // One of p's channels is full. All are looked at before anything is sent.
 fn any_full(t: &Table, p: Bench) -> bool
-    ensures { result ≡ any_full (view t.now.words) p.number }
+    ensures { result ≡ any_full (view t.now.words.now) p.number }
 {
     (0..t.benches()).any(|q| q != p.number && is_full(t, p, Bench::new(q)))
 }
 
 // q must acknowledge p's request, and its channel to p is full.
 fn no_reply(t: &Table, p: Bench, q: Bench) -> bool
-    requires something { 0 < length ((view t.now.words).messages p.number q.number) }
-    ensures { result ≡ no_room (view t.now.words) (Step.Carry p.number q.number) }
+    requires something { 0 < length ((view t.now.words.now).messages p.number q.number) }
+    ensures { result ≡ no_room (view t.now.words.now) (Step.Carry p.number q.number) }
 {
-    is_request(oldest(&t.words, p, q).kind) && is_full(t, q, p)
+    is_request(oldest(t.words, p, q).kind) && is_full(t, q, p)
 }
 
 // The first refusal that applies, in the order of the numbers, or that the step can be done. It only reads.
 #[tactic(auto, unfolding(lamport::specs::Refusals::answer))]
 fn check(t: &Table, s: Step) -> Result<(), Refusal>
-    ensures { answer_number result ≡ answer (view t.now.words) s }
+    ensures { answer_number result ≡ answer (view t.now.words.now) s }
 {
     if is_outside(t, s) {
         return Err(Refusal::NoSuchBench);
@@ -77,7 +79,7 @@ fn check(t: &Table, s: Step) -> Result<(), Refusal>
     if is_to_itself(s) {
         return Err(Refusal::ToItself);
     }
-    let attempt = Attempt { table: t, step: s };
+    let attempt = Attempt { table: *t, step: s };
     if attempt.is_not_admitted() {
         return Err(Refusal::NotAdmitted);
     }
@@ -115,12 +117,13 @@ fn apply(words: &mut Words, s: Step)
     }
 }
 
-// A step on a table: nothing is scanned. Nothing is written before the last test has passed.
-pub fn step_formed(t: &mut Table, s: Step) -> Result<(), Refusal>
-    ensures { Stepped t.old.words s (answer_number result) t.new.words }
+// A step on words that are known to be a table: nothing is scanned. Nothing is written before the last test has passed.
+pub fn step_formed(words: &mut Words, s: Step) -> Result<(), Refusal>
+    requires { well_formed words.old ≡ true }
+    ensures { Stepped words.old s (answer_number result) words.new }
 {
-    check(&*t, s)?;
-    apply(&mut t.words, s);
+    check(&Table { words: &*words }, s)?;
+    apply(words, s);
     Ok(())
 }
 
@@ -128,10 +131,10 @@ pub fn step_formed(t: &mut Table, s: Step) -> Result<(), Refusal>
 pub fn step(words: &mut Words, s: Step) -> Result<(), Refusal>
     ensures { Stepped words.old s (answer_number result) words.new }
 {
-    let mut t = Table::try_from(&*words)?;
-    step_formed(&mut t, s)?;
-    *words = t.words;
-    Ok(())
+    if !well_formed(&*words) {
+        return Err(Refusal::Malformed);
+    }
+    step_formed(words, s)
 }
 
 // A fresh table of so many benches; bad sizes leave words that are all zero.

@@ -2,4 +2,3 @@
 pub mod Places
 pub mod View
 pub mod WellFormed
-pub mod Reads

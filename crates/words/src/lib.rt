@@ -82,9 +82,9 @@ pub fn phase_word(t: &Words, p: Bench) -> u32
 }
 
 pub fn phase(t: &Table, p: Bench) -> Phase
-    ensures { phase_number result ≡ (view t.now.words).phase p.number }
+    ensures { phase_number result ≡ (view t.now.words.now).phase p.number }
 {
-    Phase::try_from(phase_word(&t.words, p)).unwrap()
+    Phase::try_from(phase_word(t.words, p)).unwrap()
 }
 
 // The words of p in a block that has a word for each pair of benches.

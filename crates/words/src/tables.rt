@@ -1,42 +1,23 @@
 // Words that are known to be a table.
 
-ghost use Rattle.std.specs.Prelude.{◌≡◌, true};
+ghost use Rattle.std.specs.Prelude.{◌≡◌, true, ◌≤◌};
+ghost use Rattle.words.specs.View.{view};
 ghost use Rattle.words.specs.WellFormed.{well_formed};
 
-use crate::{Words, benches, well_formed};
-use lamport::Refusal;
+use crate::{Words, benches};
 
-// A table, well formed: what has one needs no scan.
-#[derive(Drop)]
-pub struct Table {
-    pub words: Words,
-    ghost formed: { well_formed words ≡ true },
+// A table in words that the caller lends, to be read: what has one needs no scan.
+#[derive(Clone, Copy)]
+pub struct Table<'a> {
+    pub words: &'a Words,
+    ghost formed: { well_formed words.now ≡ true },
 }
 
-impl TryFrom<&Words> for Table {
-    ghost use Rattle.words.specs.Reads.{Reads};
-
-    type Error = Refusal;
-
-    ghost try_from_gives = { Reads };
-
-    fn try_from(words: &Words) -> Result<Table, Refusal> {
-        if well_formed(words) {
-            Ok(Table { words: *words })
-        } else {
-            Err(Refusal::Malformed)
-        }
-    }
-}
-
-impl Table {
-    ghost use Rattle.std.specs.Prelude.{◌≤◌};
-    ghost use Rattle.words.specs.View.{view};
-
+impl Table<'_> {
     pub fn benches(&self) -> usize
-        ensures number { result ≡ (view self.now.words).benches }
+        ensures number { result ≡ (view self.now.words.now).benches }
         ensures few { result ≤ 8 }
     {
-        benches(&self.words)
+        benches(self.words)
     }
 }

@@ -1,4 +1,4 @@
-use Rattle.std.proofs.Common.{sym, refl, arith}
+use Rattle.std.proofs.Common.{sym, arith}
 use Rattle.std.proofs.lemmas.Result.{err_from_is_err_and}
 use Rattle.lamport.proofs.Numbers.{number-some}
 use Rattle.table.proofs.Stepping.{refused, taken}
@@ -8,12 +8,7 @@ pub returns-in_err-check : goal.returns-in_err-check
 returns-in_err-check c =
     let p = err_from_is_err_and c.from_residual.result c.from_residual.ensures.1 in
     rw (p.1, p.2)
-    (refused _ _ c.args.t.now.formed _ (rw c.in_err-check.was at c.check.ensures) (λ z. omega (arith, number-some c.in_err-check.field-0.0)))
-
-pub invariant_of-t : goal.invariant_of-t
-invariant_of-t c =
-    let done = taken _ _ c.args.t.now.formed (sym (rw c.in_ok-check.was at c.check.ensures)) _ c.apply.ensures in
-    record { formed = done.formed refl }
+    (refused _ _ c.requires _ (rw c.in_err-check.was at c.check.ensures) (λ z. omega (arith, number-some c.in_err-check.field-0.0)))
 
 pub returns : goal.returns
-returns c = taken _ _ c.args.t.now.formed (sym (rw c.in_ok-check.was at c.check.ensures)) _ c.apply.ensures
+returns c = taken _ _ c.requires (sym (rw c.in_ok-check.was at c.check.ensures)) _ c.apply.ensures

@@ -4,4 +4,4 @@ use Rattle.table.proofs.attempt.Attempt.clock_then.Goals as goal
 pub new-requires : goal.new-requires
 new-requires c =
     let tried = c.args.self.now in
-    (carry-small _ tried.table.now.formed _ _ (rw c.in-Carry.is at tried.inside)).0
+    (carry-small _ tried.table.formed _ _ (rw c.in-Carry.is at tried.inside)).0
