@@ -42,7 +42,7 @@ engine_follows n capacity start t u told ks e m s =
       formed = steps_formed (m.formed e) s;
     }
 
--- demand 3, of what is read in the words that `fresh` makes
+-- Demand3, of what is read in the words that `fresh` makes
 pub engine_demand3 : (n capacity start : ℕ) (t : List ℕ) → sizes_ok n capacity ≡ true → start ≤ limit → Made n capacity start 0 t → Demand3 (view t)
 engine_demand3 n capacity start t e l m = subst Demand3 (sym (m.done e)) (demand3 n capacity start e l)
 

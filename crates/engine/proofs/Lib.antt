@@ -1,2 +1,2 @@
--- The engine follows the rules, so that demand 3 is the engine's own.
+-- The engine follows the rules, so that Demand3 is the engine's own.
 pub mod Engine

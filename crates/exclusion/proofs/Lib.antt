@@ -1,4 +1,4 @@
--- Demand 3 of the rules: Theorems has it, Witness shows that it is not empty, the others are on the way.
+-- Demand3 of the rules: Theorems has it, Witness shows that it is not empty, the others are on the way.
 pub mod Streams
 pub mod Effects
 pub mod Enough

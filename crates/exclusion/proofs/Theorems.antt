@@ -1,4 +1,4 @@
--- Theorems: demand 3, of every list of steps from a fresh table, from what each step keeps.
+-- Theorems: Demand3, of every list of steps from a fresh table, from what each step keeps.
 use mathlib.Core.Path.{◌≡◌, refl, sym, ◌∙◌, subst}
 use mathlib.Core.Logic.{◌≢◌, ◌⊎◌, inl, inr}
 use mathlib.Core.Bool.{Bool, true, false, cond}
@@ -246,6 +246,6 @@ module _ (n capacity start : ℕ) (n8 : n ≤ 8) (low : start ≤ limit) where
         holds = λ ks p z. enters-holds (after s₀ ks) p z;
       }
 
--- demand 3, of every table that document 01 calls fresh
+-- Demand3, of every table that is fresh
 pub demand3 : (n capacity start : ℕ) → sizes_ok n capacity ≡ true → start ≤ limit → Demand3 (fresh n capacity start)
 demand3 n capacity start ok low = demanded n capacity start (leb-true n 8 (and_right (leb 1 n) (leb n 8) (and_left (within 1 n 8) _ ok))) low

@@ -1,4 +1,4 @@
--- Witness: lists of steps, computed, that meet the premises of demand 3 and reach its bounds, so that no statement of it is empty.
+-- Witness: lists of steps, computed, that meet the premises of Demand3 and reach its bounds, so that no statement of it is empty.
 use mathlib.Core.Path.{◌≡◌, refl}
 use mathlib.Core.Logic.{◌≢◌}
 use mathlib.Core.List.{List, [], ◌∷◌, ◌++◌}

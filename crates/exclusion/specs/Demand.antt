@@ -1,4 +1,4 @@
--- Demand 3, of the rules: what holds over every list of steps from a fresh table, refused steps included.
+-- Demand3, of the rules: what holds over every list of steps from a fresh table, refused steps included.
 -- `after s₀ ks` is the table after the steps ks, `answer` a step's answer (0: done), `next` the table after one step.
 use Rattle.std.specs.Prelude.{◌≡◌, ◌≢◌, ◌↔◌, Bool, true, false, cond, ◌&&◌, List, [], ◌∷◌, ◌++◌, ℕ, ◌+◌, ◌≤◌, ◌<◌, eqb}
 use Rattle.lamport.specs.Order.{limit, before}

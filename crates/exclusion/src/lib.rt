@@ -1,2 +1,2 @@
-// No code: this crate is a theory of lamport's rules. specs/Demand.antt states demand 3, proofs/ prove it.
+// No code: this crate is a theory of lamport's rules. specs/Demand.antt states Demand3, proofs/ prove it.
 #![tactic(auto)]

@@ -1,4 +1,4 @@
--- Three orders of arrival in which a slip in a rule would break demand 3: what the rules give there.
+-- Three orders of arrival in which a slip in a rule would break Demand3: what the rules give there.
 use Rattle.std.specs.Prelude.{◌≡◌, List, [], ◌∷◌}
 use Rattle.lamport.specs.Table.{Table, waiting, holding, fresh}
 use Rattle.lamport.specs.Refusals.{answer, after}

@@ -1,7 +1,7 @@
 // The rules on plain numbers and rows, which need no table: stamps, clocks, the queue, the entry rule, the grid.
 #![tactic(auto)]
 
-ghost use Rattle.std.specs.Prelude.{◌≡◌, ℕ, ◌+◌, ◌<◌, ◌≤◌, length, get_or};
+ghost use Rattle.std.specs.Prelude.{◌≡◌, ℕ, max, ◌+◌, ◌<◌, ◌≤◌, length, get_or};
 ghost use Rattle.lamport.specs.Order.{before, ahead as ahead_of, own_first, late_enough, heard_all, entry_rule, lc1 as lc1_of, lc2 as lc2_of, clock_after, entry_after};
 ghost use Rattle.lamport.specs.Table.{sizes_ok, phase_number};
 ghost use Rattle.lamport.specs.Steps.{actor as actor_of, row_of, admitted};
@@ -99,7 +99,7 @@ pub enum Refusal {
     TooLong = 12,
 }
 
-// An answer as a number: 0 is done.
+// An answer as a number: 0 is done. `From` can't say it, since both types are std's.
 pub fn answer_number(answer: Result<(), Refusal>) -> u32
     ensures { result ≡ answer_number answer }
 {
@@ -131,11 +131,26 @@ pub fn comes_before(a: Request, b: Request) -> bool
     a < b
 }
 
+// Std's `max` by the name that the rules use.
+pub fn larger(a: u32, b: u32) -> u32
+    ensures { result ≡ max a b }
+{
+    a.max(b)
+}
+
+// A word of a table as an index or a sum, with its range; `From` has no way from u32 to usize.
+pub fn wide(x: u32) -> usize
+    ensures value { result ≡ x }
+    ensures upper_bound { result < 4294967296 }
+{
+    x as usize
+}
+
 // LC1: any event but a receipt.
 pub fn lc1(clock: u32) -> usize
     ensures { result ≡ lc1_of clock }
 {
-    clock as usize + 1
+    wide(clock) + 1
 }
 
 // LC2: the receipt of a message with stamp t.
@@ -143,7 +158,7 @@ fn lc2(clock: u32, t: u32) -> usize
     ensures value { result ≡ lc2_of clock t }
     ensures upper_bound { result ≤ 4294967296 }
 {
-    clock.max(t) as usize + 1
+    wide(larger(clock, t)) + 1
 }
 
 // The receiver's clock after a message. A request's acknowledgement is a second event.
@@ -179,10 +194,10 @@ pub fn entry_after(m: Message, entry: u32) -> u32
     }
 }
 
-// ---- the entry rule
+// ---- the entry rule, for p of n benches: the rows may be longer than n, as a table's are, so n stands beside them
 
 // The request that stands for q in a queue.
-fn request_of(queue: &[u32], q: usize) -> Request
+pub fn request_of(queue: &[u32], q: usize) -> Request
     requires { q < length queue.now }
     ensures stamp { result.stamp ≡ get_or queue.now q 0 }
     ensures bench { result.bench ≡ q }

@@ -59,6 +59,7 @@ fn put_fields(out: &mut [u8], cells: &[Option<usize>], end: u8) -> usize
     }
 }
 
+// Answers and phases are the numbers that are printed: this crate stands on no other, and promises of every number.
 // One line of the listing: the step's number from 1 and its answer, the bench with its clock, phase and place after the step, the holder.
 #[derive(Clone, Copy)]
 pub struct Record {
@@ -120,7 +121,7 @@ pub fn put_end(out: &mut [u8], taken: usize, refused: usize) -> usize
     put_line(out, b"end\t", taken, refused)
 }
 
-// What the program prints of a run that is refused: the number for no, and the line.
+// What the program prints of a run that is refused: the number for no, whichever it is, and the line.
 #[tactic(auto, unfolding(crate::specs::Record::refused_text))]
 pub fn put_refused(out: &mut [u8], no: usize, line: usize) -> usize
     requires { length (refused_text no line) ≤ length out.old }

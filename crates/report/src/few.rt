@@ -1,4 +1,4 @@
-// Words that name no more benches than a table has room for: all that a line of the listing asks of them.
+// Words that name no more benches than a table has room for: all that a line of the listing asks of them. A words::tables::Table would ask more.
 
 ghost use Rattle.std.specs.Prelude.{◌≡◌, ◌≤◌};
 ghost use Rattle.words.specs.View.{view};

@@ -13,28 +13,18 @@ ghost use Rattle.report.specs.Report.{earlier, place_of, place_cell, holder_cell
 mod few;
 
 use few::Few;
-use lamport::{Phase, Refusal, Request, Step, actor, comes_before};
+use lamport::{Phase, Refusal, Step, actor, comes_before, request_of};
 use listing::Record;
 use words::numbers::Bench;
-use words::{Words, clock, entry, phase_word};
-
-// The request that stands for q in p's queue.
-fn request_of(t: &Few, p: Bench, q: Bench) -> Request
-    ensures stamp { result.stamp ≡ (view t.now.words.now).entry p.number q.number }
-    ensures bench { result.bench ≡ q.number }
-{
-    Request {
-        stamp: entry(t.words, p, q),
-        bench: q.number,
-    }
-}
+use words::{Words, clock, phase_word, queue};
 
 // q has an entry in p's queue, and it comes before p's own.
 fn is_earlier(t: &Few, p: Bench, q: Bench) -> bool
     ensures { result ≡ earlier (view t.now.words.now) p.number q.number }
 {
-    let other = request_of(t, p, q);
-    other.stamp != 0 && comes_before(other, request_of(t, p, p))
+    let queue = queue(t.words, p);
+    let other = request_of(queue, q.number);
+    other.stamp != 0 && comes_before(other, request_of(queue, p.number))
 }
 
 // One plus the number of entries in p's queue before its own.
@@ -75,7 +65,7 @@ fn holder(t: &Few) -> Option<usize>
     (0..t.benches()).find(|q| is_in(t, Bench::new(*q), Phase::Holding))
 }
 
-// The bench that the line is about, unless the answer is that there is none.
+// The bench that the line is about, unless the answer is that there is none; a number, as in `record_of`.
 fn bench_shown(no: u32, s: Step) -> Option<Bench>
     requires present { (no ≡ 2 → ⊥) → actor_of s < 8 }
     ensures { option_map (λ p. p.number) result ≡ unless_two no (Some (actor_of s)) }

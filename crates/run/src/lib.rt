@@ -68,7 +68,7 @@ fn run_lines(text: &[u8], budget: usize, t: &mut Own, out: &mut [u8]) -> Ran
         refused: 0,
         bytes: 0,
     };
-    // No `for` counts here: the steps taken are what the run answers.
+    // A `for` would count the steps once more: those taken are in the answer.
     while ran.taken < budget {
         let Some((line, after)) = schedule::cut_line(rest) else {
             return ran;

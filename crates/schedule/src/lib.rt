@@ -38,7 +38,7 @@ fn up_to(text: &[u8], b: u8) -> &[u8]
     }
 }
 
-// The line that begins at `at`, without its LF: a part of the schedule's own bytes.
+// The line that begins at `at`, without its LF: a part of the schedule's own bytes. It stays for its promise, which speaks of a place; `cut_line` needs none.
 pub fn line_at(schedule: &[u8], at: usize) -> &[u8]
     requires { at ≤ length schedule.now }
     ensures { result.now ≡ up_to lf (drop at schedule.now) }
@@ -46,7 +46,7 @@ pub fn line_at(schedule: &[u8], at: usize) -> &[u8]
     up_to(&schedule[at..], b'\n')
 }
 
-// The first field of a line, up to its first tab: a part of the schedule's own bytes.
+// The first field of a line, up to its first tab: a part of the schedule's own bytes. The reader of lines cuts, and this stays for its promise.
 pub fn field(line: &[u8]) -> &[u8]
     ensures { result.now ≡ up_to tab line.now }
 {
@@ -144,7 +144,7 @@ fn two_benches(word: &[u8], p: u32, q: u32) -> Option<Line>
     }
 }
 
-// The line's word is read; `rest` is what follows its tab. The three that read a number are no twins: each ends a line in its own way.
+// The line's word is read; `rest` is what follows its tab. The three that read a number differ in how a line may end; one for all would need an array of the numbers read, which grows, and a case for each length.
 #[tactic(auto, using(crate::proofs::LineLaws::reading_laws), unfolding(crate::specs::Lines::line_for))]
 fn first_number(word: &[u8], rest: &[u8]) -> Option<Line>
     ensures { result ≡ reading word.now [] (parts tab rest.now) }
@@ -211,7 +211,7 @@ fn check_steps(text: &[u8]) -> Result<(), Refused>
     ensures { result ≡ check_steps (Ok tt) 2 (parts lf text.now) }
 {
     let mut rest = text;
-    // The number is counted by hand: it is what a refusal gives, and the loop goes over what is left of the text.
+    // No iterator over lines: the loop must know whether an LF ended the last, and the number that it counts is what a refusal gives.
     let mut number = 2;
     while let Some((line, after)) = cut_line(rest) {
         let Some(Line::Step(_)) = line_of(line) else {

@@ -10,7 +10,7 @@ ghost use Rattle.words.specs.Places.{clock as clock_of, count as count_of, chan}
 ghost use Rattle.words.specs.View.{view};
 ghost use Rattle.store.specs.Stores.{pushed, sent_to, sent, moved, popped, Room, Carries, acted, asked, left, entered, marked, received, carried, started};
 
-use lamport::{Kind, Message, Phase, clock_after, entry_after};
+use lamport::{Kind, Message, Phase, clock_after, entry_after, larger};
 use words::numbers::{Bench, Channel};
 use words::{
     BENCHES, CHANNEL, CLOCKS, COUNTS, ENTRIES, HEARD, KINDS, LAST, MOST, PHASES, SLOT, STAMPS,
@@ -92,6 +92,7 @@ fn act(t: &mut Words, p: Bench, phase: Phase, own: u32)
     t[ENTRIES + p.number * MOST + p.number] = own;
 }
 
+// `ask` and `leave` are no twins: what becomes of the own entry is computed in one, and 0 in the other.
 pub fn ask(t: &mut Words, p: Bench)
     requires room { Room t.old p.number }
     requires not_spent { clock_of t.old p.number < limit }
@@ -138,7 +139,7 @@ fn receive(t: &mut Words, p: Bench, q: Bench, m: Message, c: u32)
     ensures { t.new ≡ received t.old p.number q.number m c }
 {
     let pair = q.number * MOST + p.number;
-    let heard = t[HEARD + pair].max(m.stamp);
+    let heard = larger(t[HEARD + pair], m.stamp);
     let noted = entry_after(m, t[ENTRIES + pair]);
     pop(t, Channel::between(p, q));
     t[CLOCKS + q.number] = c;

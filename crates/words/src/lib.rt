@@ -12,7 +12,7 @@ ghost use Rattle.words.specs.WellFormed.{phase_ok, own_ok, joined, own_entry, be
 pub mod numbers;
 pub mod tables;
 
-use lamport::{Kind, Message, Phase, sizes_ok};
+use lamport::{Kind, Message, Phase, sizes_ok, wide};
 use numbers::{Bench, Channel};
 use tables::Table;
 
@@ -48,7 +48,7 @@ pub const STAMPS: usize = KINDS + 1;
 
 pub const WORDS: usize = KINDS + MOST * MOST * CHANNEL;
 
-// The caller lends a table as plain words: an array has no methods of its own, and a struct round it would have to be copied. Words that are known to be a table are a tables::Table.
+// The caller lends a table as plain words, and an array has no methods of its own. A struct round the lent `&mut` was tried: after a call that takes a `&mut` to it the check no longer knows the words. Words that are known to be a table, and are only read, are a tables::Table.
 pub type Words = [u32; WORDS];
 
 // ---- what a table reads
@@ -57,7 +57,7 @@ pub type Words = [u32; WORDS];
 pub fn benches(t: &Words) -> usize
     ensures { result ≡ (view t.now).benches }
 {
-    t[BENCHES] as usize
+    wide(t[BENCHES])
 }
 
 #[tactic(auto, unfolding(crate::specs::View::view))]
@@ -67,7 +67,7 @@ pub fn capacity(t: &Words) -> u32
     t[CAPACITY]
 }
 
-// Each is one index: one function for both would be no shorter than the index.
+// This and `phase_word` are one index each: one function for both would be no shorter.
 pub fn clock(t: &Words, p: Bench) -> u32
     ensures { result ≡ (view t.now).clock p.number }
 {
@@ -137,7 +137,7 @@ pub fn count(t: &Words, p: Bench, q: Bench) -> u32
     channel_count(t, Channel::between(p, q))
 }
 
-// A message slot as it stands: the word of its kind, and its stamp.
+// A message slot as it stands, well formed or not: so its kind is a word still, which may name none.
 #[derive(Clone, Copy)]
 struct SlotWords {
     kind: u32,
@@ -162,7 +162,7 @@ fn kind_of(code: u32) -> Kind
     Kind::try_from(code).unwrap_or(Kind::Release)
 }
 
-// The oldest message on p's channel to q.
+// The oldest message on p's channel to q, which the caller has found not empty: an Option would be tested once more.
 pub fn oldest(t: &Words, p: Bench, q: Bench) -> Message
     requires something { 0 < length ((view t.now).messages p.number q.number) }
     ensures { result ≡ first ((view t.now).messages p.number q.number) }

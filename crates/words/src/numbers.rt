@@ -1,4 +1,4 @@
-// Bench numbers and channel numbers, which a table has words for.
+// Bench numbers and channel numbers, which a table has words for: two types, so that none is taken for the other. Two benches stay two arguments: at each function the pair means something else.
 
 ghost use Rattle.std.specs.Prelude.{◌≡◌, ◌<◌};
 ghost use Rattle.words.specs.Places.{chan};
