@@ -2,3 +2,4 @@
 pub mod Answered
 pub mod Records
 pub mod Going
+pub mod Whole

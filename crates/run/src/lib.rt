@@ -1,19 +1,22 @@
 // A run: reads a schedule of steps, takes them on a fresh table, and writes the listing into the output that is lent.
 #![tactic(auto)]
 
-ghost use Rattle.std.specs.Prelude.{◌≡◌, ◌≤◌, ◌<◌, ◌*◌, length};
+ghost use Rattle.std.specs.Prelude.{◌≡◌, true, ◌≤◌, ◌<◌, ◌+◌, ◌*◌, length};
 ghost use Rattle.lamport.specs.Refusals.{answer_number};
+ghost use Rattle.lamport.specs.Table.{sizes_ok, fresh as fresh_of};
 ghost use Rattle.words.specs.View.{view};
 ghost use Rattle.schedule.specs.Parts.{lf, parts, count as count_of};
 ghost use Rattle.schedule.specs.Schedule.{steps_of};
-ghost use Rattle.run.specs.Listing.{refused_one, records};
-ghost use Rattle.run.specs.Run.{Turned, RanAs};
+ghost use Rattle.listing.specs.Write.{Wrote};
+ghost use Rattle.run.specs.Listing.{refused_one, records, listing};
+ghost use Rattle.run.specs.Run.{run_of, Answers, Turned, RanAs};
 
 mod own;
 
-use lamport::{Refusal, Step, answer_number};
+use lamport::{Refusal, Setup, Step, answer_number};
 use own::Own;
-use schedule::Line;
+use schedule::{Line, Refused};
+use words::WORDS;
 
 // ---- one step
 
@@ -83,4 +86,56 @@ fn run_lines(text: &[u8], budget: usize, t: &mut Own, out: &mut [u8]) -> Ran
         rest = after;
     }
     ran
+}
+
+// ---- the run
+
+// A fresh table, for sizes that are good.
+fn fresh_table(setup: Setup) -> Own
+    requires sizes { sizes_ok setup.benches setup.capacity ≡ true }
+    ensures { view result.words ≡ fresh_of setup.benches setup.capacity setup.start }
+{
+    let mut words = [0; WORDS];
+    let _ = table::fresh(&mut words, setup);
+    Own { words }
+}
+
+// Writes the listing of a run of these lines on a fresh table, with its last line.
+fn put_listing(setup: Setup, lines: &[u8], budget: usize, out: &mut [u8]) -> usize
+    requires sizes { sizes_ok setup.benches setup.capacity ≡ true }
+    requires short { length lines.now ≤ 12288 }
+    requires room { 32 * (count_of lf lines.now + 1) ≤ length out.old }
+    ensures { Wrote (listing (records 1 budget (fresh_of setup.benches setup.capacity setup.start) (steps_of (parts lf lines.now)))) result out.old out.new }
+{
+    let mut t = fresh_table(setup);
+    let ran = run_lines(lines, budget, &mut t, out);
+    ran.bytes + listing::put_end(&mut out[ran.bytes..], ran.taken, ran.refused)
+}
+
+// The longest schedule, and the room for each of its lines.
+const LONGEST: usize = 12288;
+
+const LINE_ROOM: usize = 32;
+
+// Runs the schedule for at most `budget` steps, and writes the listing over the front of `out`. All refusals are found before the first step.
+pub fn run(schedule: &[u8], budget: usize, out: &mut [u8]) -> Result<usize, Refused>
+    ensures { Answers (run_of schedule.now budget (length out.old)) result out.old out.new }
+{
+    if LONGEST < schedule.len() {
+        return Err(Refused {
+            refusal: Refusal::TooLong,
+            line: 0,
+        });
+    }
+    let setup = schedule::check(schedule)?;
+    if out.len() < LINE_ROOM * schedule::count(schedule, b'\n') {
+        return Err(Refused {
+            refusal: Refusal::NoRoom,
+            line: 0,
+        });
+    }
+    let Some((_, lines)) = schedule::cut_line(schedule) else {
+        unreachable!();
+    };
+    Ok(put_listing(setup, lines, budget, out))
 }

@@ -1,8 +1,9 @@
 // The schedule as text: its lines and their fields, what each line says, and whether the whole can be run.
 #![tactic(auto)]
 
-ghost use Rattle.std.specs.Prelude.{◌≡◌, ◌≤◌, [], ◌∷◌, Some, Ok, MatchOption, length, drop};
+ghost use Rattle.std.specs.Prelude.{◌≡◌, ◌≤◌, [], ◌∷◌, Some, Ok, true, MatchOption, IfOk, length, drop};
 ghost use Rattle.lamport.specs.declared.Refusal.TheVariants.{BadLine};
+ghost use Rattle.lamport.specs.Table.{sizes_ok};
 ghost use Rattle.schedule.specs.Parts.{lf, tab, up_to, parts, IsCut, count as count_of};
 ghost use Rattle.schedule.specs.Number.{digit_on, begins_ill, number_of};
 ghost use Rattle.schedule.specs.Lines.{one_bench, two_benches, header as header_of, reading, line_of};
@@ -230,7 +231,8 @@ fn check_steps(text: &[u8]) -> Result<(), Refused>
 // Whether the schedule can be run, and on which table. All that is refused here is found before the first step.
 #[tactic(auto, using(crate::proofs::ScheduleLaws::heading))]
 pub fn check(schedule: &[u8]) -> Result<Setup, Refused>
-    ensures { result ≡ check_of schedule.now }
+    ensures exact { result ≡ check_of schedule.now }
+    ensures sizes { IfOk result (λ setup. sizes_ok setup.benches setup.capacity ≡ true) }
 {
     // No LF ends the line, as in an empty file.
     let Some((line, rest)) = cut_line(schedule) else {
