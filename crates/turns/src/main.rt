@@ -1,0 +1,54 @@
+// Reads a schedule from standard input, runs it, and prints its listing, or one line that says why it was refused.
+#![tactic(auto)]
+
+ghost use Rattle.std.specs.Prelude.{IfOk, ◌≤◌, length};
+ghost use Rattle.listing.specs.Write.{Wrote};
+ghost use Rattle.run.specs.Run.{run_of};
+ghost use Rattle.turns.specs.Shown.{shown};
+
+use lamport::answer_number;
+use std::io;
+use std::io::{Read, Write};
+
+// A byte more than the longest schedule, so that a longer one shows.
+const INPUT: usize = 12289;
+
+// Room for the lines of the longest schedule: one that is good has 6 bytes a line.
+const OUTPUT: usize = 65568;
+
+const BUDGET: usize = 65535;
+
+// Reads until the buffer is full or the input ends, and answers how many bytes are read.
+fn fill(reader: &mut impl Read, buf: &mut [u8]) -> io::Result<usize>
+    ensures { IfOk result (λ n. n ≤ length buf.new) }
+{
+    let mut n = 0;
+    for _ in 0..=INPUT {
+        let more = reader.read(&mut buf[n..])?;
+        if more == 0 {
+            break;
+        }
+        n += more;
+    }
+    Ok(n)
+}
+
+// Runs the schedule, and writes what is printed of it over the front of `out`.
+fn show(schedule: &[u8], out: &mut [u8]) -> usize
+    requires room { 50 ≤ length out.old }
+    ensures text { Wrote (shown (run_of schedule.now 65535 (length out.old))) result out.old out.new }
+    ensures within { result ≤ length out.new }
+{
+    match run::run(schedule, BUDGET, out) {
+        Ok(bytes) => bytes,
+        Err(r) => listing::put_refused(out, answer_number(Err(r.refusal)) as usize, r.line),
+    }
+}
+
+fn main(rt: HostRuntime) -> io::Result<()> {
+    let mut schedule = [0; INPUT];
+    let n = fill(&mut rt.reader(), &mut schedule)?;
+    let mut out = [0; OUTPUT];
+    let bytes = show(&schedule[..n], &mut out);
+    io::writer(&rt).write_all(&out[..bytes])
+}
