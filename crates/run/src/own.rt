@@ -5,7 +5,7 @@ ghost use Rattle.words.specs.WellFormed.{well_formed};
 
 use words::Words;
 
-// A run is to own its words, so that it knows between two steps that they are a table.
+// A run owns its words, so it knows between two steps that they are a table.
 #[derive(Drop)]
 pub struct Own {
     pub words: Words,
