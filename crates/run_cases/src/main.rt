@@ -175,11 +175,22 @@ fn long(rt: &impl Print, name: &str, length: usize) -> io::Result<()> {
     text(rt, name, &schedule[..length.min(LONGEST + 1)])
 }
 
+// Capacity 1: an ask is answered 7 while an ack waits on its channel; all 56 channels are full once all have asked; a leave is answered 7 while its ack waits.
 fn full(rt: &impl Print) -> io::Result<()> {
     text(
         rt,
         "8 benches with full channels",
-        b"table\t8\t1\t0\nask\t0\nask\t1\ncarry\t0\t1\ncarry\t0\t2\ncarry\t2\t0\nask\t2\ncarry\t0\t7\ncarry\t7\t0\nask\t7\nleave\t0\nmark\t3\n",
+        b"table\t8\t1\t0\nask\t0\ncarry\t0\t1\nask\t1\ncarry\t1\t0\nask\t1\nask\t2\nask\t3\nask\t4\nask\t5\nask\t6\nask\t7\ncarry\t1\t0\ncarry\t0\t2\ncarry\t7\t6\nenter\t0\nmark\t3\n",
+    )?;
+    text(
+        rt,
+        "all 56 channels full",
+        b"table\t8\t1\t0\nask\t0\nask\t1\nask\t2\nask\t3\nask\t4\nask\t5\nask\t6\nask\t7\ncarry\t0\t1\ncarry\t7\t6\nask\t3\n",
+    )?;
+    text(
+        rt,
+        "a leave with a full channel",
+        b"table\t2\t1\t0\nask\t0\ncarry\t0\t1\ncarry\t1\t0\nenter\t0\nask\t1\ncarry\t1\t0\nleave\t0\ncarry\t0\t1\nleave\t0\n",
     )
 }
 
