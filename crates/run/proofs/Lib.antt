@@ -3,3 +3,4 @@ pub mod Answered
 pub mod Records
 pub mod Going
 pub mod Whole
+pub mod One
