@@ -5,6 +5,7 @@ ghost use Rattle.std.specs.Prelude.{◌≡◌, true, eqb, ◌<◌, ◌≤◌, le
 ghost use Rattle.std.specs.Option.{option_map, IfSome};
 ghost use Rattle.lamport.specs.Steps.{actor as actor_of};
 ghost use Rattle.lamport.specs.Table.{phase_number};
+ghost use Rattle.words.specs.Places.{most};
 ghost use Rattle.words.specs.View.{view};
 ghost use Rattle.words.specs.WellFormed.{well_formed};
 ghost use Rattle.listing.specs.Record.{record_text};
@@ -67,7 +68,7 @@ fn holder(t: &Few) -> Option<usize>
 
 // The bench that the line is about, unless the answer is that there is none; a number, as in `record_of`.
 fn bench_shown(no: u32, s: Step) -> Option<Bench>
-    requires present { (no ≡ 2 → ⊥) → actor_of s < 8 }
+    requires present { (no ≡ 2 → ⊥) → actor_of s < most }
     ensures { option_map (λ p. p.number) result ≡ unless_two no (Some (actor_of s)) }
 {
     (no != Refusal::NoSuchBench as u32).then(|| Bench::new(actor(s)))
@@ -76,8 +77,8 @@ fn bench_shown(no: u32, s: Step) -> Option<Bench>
 // The line for the k-th step, s, from the table after it. Its answer is given by its number, and the words need not be well formed: so `exact` promises.
 #[tactic(auto, unfolding(crate::specs::Report::record_of))]
 pub fn record_of(words: &Words, k: usize, no: u32, s: Step) -> Record
-    requires few { (view words.now).benches ≤ 8 }
-    requires present { (no ≡ 2 → ⊥) → actor_of s < 8 }
+    requires few { (view words.now).benches ≤ most }
+    requires present { (no ≡ 2 → ⊥) → actor_of s < most }
     ensures exact { result ≡ record_of k no s (view words.now) }
     ensures short { well_formed words.now ≡ true → ((no ≡ 2 → ⊥) → actor_of s < (view words.now).benches) → k < 100000 → no < 10 → length (record_text result) ≤ 32 }
 {

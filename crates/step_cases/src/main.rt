@@ -4,8 +4,8 @@
 use lamport::{Setup, Step, answer_number};
 use std::io;
 use words::{
-    CAPACITY, CHANNEL, CLOCKS, COUNTS, ENTRIES, HEARD, KINDS, MOST, PHASES, SLOT, STAMPS, WORDS,
-    Words,
+    BENCHES, CAPACITY, CHANNEL, CLOCKS, COUNTS, ENTRIES, HEARD, KINDS, LAST, MOST, PHASES, SLOT,
+    STAMPS, WORDS, Words,
 };
 
 const LIMIT: u32 = u32::MAX;
@@ -149,7 +149,7 @@ fn whole_run(rt: &impl Print) -> io::Result<()> {
 
 // ---- damaged tables
 
-// A table of 3 benches, capacity 2, in which bench 0 holds, bench 1 waits and bench 2 is idle, with messages on the way.
+// A table of 3 benches, capacity 2: bench 0 holds, bench 1 waits and bench 2 is idle. A request is on the way from 1 to 2, an acknowledgement from 0 to 1.
 fn reached() -> Words {
     let mut words = [0; WORDS];
     let _ = table::fresh(&mut words, setup(3, 2, 5));
@@ -168,89 +168,245 @@ fn reached() -> Words {
     words
 }
 
-// Puts one word into the table, and marks: a table that isn't well formed is answered 1 and left as it is.
-fn damaged(rt: &impl Print, name: &str, place: usize, value: u32) -> io::Result<()> {
-    let mut words = reached();
-    if place < WORDS {
-        words[place] = value;
+// A word of the table, and what is put there.
+#[derive(Clone, Copy)]
+struct Change {
+    place: usize,
+    word: u32,
+}
+
+fn put(place: usize, word: u32) -> Change {
+    Change { place, word }
+}
+
+// Whether a step of each kind leaves every word as it was.
+fn damaged(rt: &impl Print, name: &str, table: &Words, changes: &[Change]) -> io::Result<()> {
+    let mut words = *table;
+    for change in changes {
+        if let Some(word) = words.get_mut(change.place) {
+            *word = change.word;
+        }
     }
+    print!(rt; "{name}:")?;
     let before = digest(&words);
-    let answer = answer_number(table::step(&mut words, Step::Mark(0)));
-    let left = if digest(&words) == before {
+    for s in [
+        Step::Ask(2),
+        Step::Carry(1, 2),
+        Step::Enter(1),
+        Step::Leave(0),
+        Step::Mark(0),
+    ] {
+        let answer = answer_number(table::step(&mut words, s));
+        print!(rt; " {answer}")?;
+    }
+    let after = digest(&words);
+    let left = if after == before {
         "as it was"
     } else {
         "changed"
     };
-    println!(rt; "{name}: {answer} {left}")
+    println!(rt; "  {left}  words {after}")
+}
+
+// Each table below that is answered 1 breaks one clause of "well formed" and no other.
+fn damaged_sizes(rt: &impl Print) -> io::Result<()> {
+    let zero = [0; WORDS];
+    let mut fresh = zero;
+    let _ = table::fresh(&mut fresh, setup(8, 4, 0));
+    damaged(
+        rt,
+        "one bench, all else zero",
+        &zero,
+        &[put(BENCHES, 1), put(CAPACITY, 1)],
+    )?;
+    damaged(rt, "no bench", &zero, &[put(CAPACITY, 1)])?;
+    damaged(rt, "nine benches", &fresh, &[put(BENCHES, 9)])?;
+    damaged(rt, "capacity 0", &fresh, &[put(CAPACITY, 0)])?;
+    damaged(rt, "capacity 17", &fresh, &[put(CAPACITY, 17)])
 }
 
 fn damaged_benches(rt: &impl Print) -> io::Result<()> {
-    damaged(rt, "not damaged", CAPACITY, 2)?;
-    damaged(rt, "no bench", 0, 0)?;
-    damaged(rt, "nine benches", 0, 9)?;
-    damaged(rt, "capacity 0", CAPACITY, 0)?;
-    damaged(rt, "capacity 17", CAPACITY, 17)?;
-    damaged(rt, "capacity 1, all channels within it", CAPACITY, 1)?;
-    damaged(rt, "phase 3", PHASES + 2, 3)?;
-    damaged(rt, "own entry missing at a holder", ENTRIES, 0)?;
-    damaged(rt, "own entry missing at a waiter", ENTRIES + MOST + 1, 0)?;
-    damaged(rt, "own entry of an idle bench", ENTRIES + 2 * MOST + 2, 9)?;
-    damaged(rt, "a waiting bench made idle", PHASES + 1, 0)?;
-    damaged(rt, "clock at an absent bench", CLOCKS + 3, 1)?;
-    damaged(rt, "phase at an absent bench", PHASES + 7, 1)
+    let table = reached();
+    let (own_0, own_1, own_2) = (ENTRIES, ENTRIES + MOST + 1, ENTRIES + 2 * MOST + 2);
+    damaged(rt, "not damaged", &table, &[])?;
+    damaged(rt, "phase 3", &table, &[put(PHASES, 3)])?;
+    damaged(
+        rt,
+        "own entry missing at a holder",
+        &table,
+        &[put(own_0, 0)],
+    )?;
+    damaged(
+        rt,
+        "own entry missing at a waiter",
+        &table,
+        &[put(own_1, 0)],
+    )?;
+    damaged(rt, "own entry of an idle bench", &table, &[put(own_2, 9)])?;
+    damaged(
+        rt,
+        "a waiting bench made idle",
+        &table,
+        &[put(PHASES + 1, 0)],
+    )?;
+    damaged(
+        rt,
+        "clock at an absent bench",
+        &table,
+        &[put(CLOCKS + 3, 1)],
+    )?;
+    damaged(
+        rt,
+        "phase at an absent bench",
+        &table,
+        &[put(PHASES + 7, 1)],
+    )
 }
 
 fn damaged_pairs(rt: &impl Print) -> io::Result<()> {
-    damaged(rt, "entry at an absent bench", ENTRIES + 3 * MOST, 1)?;
-    damaged(rt, "entry for an absent bench", ENTRIES + 3, 1)?;
+    let table = reached();
+    let absent = 3;
+    damaged(
+        rt,
+        "entry at an absent bench",
+        &table,
+        &[put(ENTRIES + absent * MOST, 1)],
+    )?;
+    damaged(
+        rt,
+        "entry for an absent bench",
+        &table,
+        &[put(ENTRIES + absent, 1)],
+    )?;
     damaged(
         rt,
         "entry of an absent bench for itself",
-        ENTRIES + 3 * MOST + 3,
-        1,
+        &table,
+        &[put(ENTRIES + absent * MOST + absent, 1)],
     )?;
-    damaged(rt, "heard at an absent bench", HEARD + 5 * MOST, 1)?;
-    damaged(rt, "heard from an absent bench", HEARD + 5, 1)?;
-    damaged(rt, "heard from itself", HEARD + MOST + 1, 1)?;
-    damaged(rt, "message from an absent bench", COUNTS + 4 * MOST, 1)?;
-    damaged(rt, "message to an absent bench", COUNTS + 4, 1)?;
-    damaged(rt, "message to itself", COUNTS, 1)?;
-    damaged(rt, "a channel over capacity", COUNTS + MOST + 2, 3)?;
     damaged(
         rt,
-        "a channel shorter than its messages",
-        COUNTS + MOST + 2,
-        0,
+        "heard at an absent bench",
+        &table,
+        &[put(HEARD + absent * MOST, 1)],
+    )?;
+    damaged(
+        rt,
+        "heard from an absent bench",
+        &table,
+        &[put(HEARD + absent, 1)],
+    )?;
+    damaged(rt, "heard from itself", &table, &[put(HEARD + MOST + 1, 1)])
+}
+
+fn damaged_channels(rt: &impl Print) -> io::Result<()> {
+    let table = reached();
+    let mut two_sent = table;
+    let _ = table::step(&mut two_sent, Step::Leave(0));
+    let absent = 3;
+    damaged(rt, "two messages, capacity 2", &two_sent, &[])?;
+    damaged(
+        rt,
+        "two messages, capacity 1",
+        &two_sent,
+        &[put(CAPACITY, 1)],
+    )?;
+    damaged(
+        rt,
+        "three messages, capacity 2",
+        &two_sent,
+        &[put(COUNTS + 1, 3), put(STAMPS + CHANNEL + 2 * SLOT, 9)],
+    )?;
+    damaged(rt, "one message, capacity 1", &table, &[put(CAPACITY, 1)])?;
+    damaged(
+        rt,
+        "message from an absent bench",
+        &table,
+        &[
+            put(COUNTS + absent * MOST, 1),
+            put(STAMPS + absent * MOST * CHANNEL, 5),
+        ],
+    )?;
+    damaged(
+        rt,
+        "message to an absent bench",
+        &table,
+        &[put(COUNTS + absent, 1), put(STAMPS + absent * CHANNEL, 5)],
+    )?;
+    damaged(
+        rt,
+        "message to itself",
+        &table,
+        &[put(COUNTS, 1), put(STAMPS, 5)],
     )
 }
 
 fn damaged_slots(rt: &impl Print) -> io::Result<()> {
-    let channel = (MOST + 2) * CHANNEL;
-    let itself = 0;
-    damaged(rt, "a kind that is not named", KINDS + channel, 3)?;
-    damaged(rt, "another kind that is named", KINDS + channel, 2)?;
-    damaged(rt, "a message with stamp 0", STAMPS + channel, 0)?;
-    damaged(rt, "a kind in an unused slot", KINDS + channel + SLOT, 1)?;
+    let table = reached();
+    let from_1_to_2 = (MOST + 2) * CHANNEL;
+    damaged(
+        rt,
+        "a kind that is not named",
+        &table,
+        &[put(KINDS + from_1_to_2, 3)],
+    )?;
+    damaged(
+        rt,
+        "another kind that is named",
+        &table,
+        &[put(KINDS + from_1_to_2, 2)],
+    )?;
+    damaged(
+        rt,
+        "a message with stamp 0",
+        &table,
+        &[put(STAMPS + from_1_to_2, 0)],
+    )?;
+    damaged(
+        rt,
+        "a kind in an unused slot",
+        &table,
+        &[put(KINDS + from_1_to_2 + SLOT, 1)],
+    )?;
     damaged(
         rt,
         "a stamp in an unused slot",
-        STAMPS + channel + 15 * SLOT,
-        1,
+        &table,
+        &[put(STAMPS + from_1_to_2 + SLOT, 1)],
+    )?;
+    damaged(
+        rt,
+        "a stamp in the last slot",
+        &table,
+        &[put(STAMPS + from_1_to_2 + LAST * SLOT, 1)],
+    )?;
+    damaged(
+        rt,
+        "a channel shorter than its messages",
+        &table,
+        &[put(COUNTS + MOST + 2, 0)],
     )?;
     damaged(
         rt,
         "a stamp in a bench's channel to itself",
-        STAMPS + itself,
-        1,
+        &table,
+        &[put(STAMPS, 1)],
     )?;
-    damaged(rt, "a stamp in an absent bench's channel", WORDS - 1, 1)
+    damaged(
+        rt,
+        "a stamp in an absent bench's channel",
+        &table,
+        &[put(WORDS - 1, 1)],
+    )
 }
 
 fn main(rt: HostRuntime) -> io::Result<()> {
     sizes(&rt)?;
     steps(&rt)?;
     whole_run(&rt)?;
+    damaged_sizes(&rt)?;
     damaged_benches(&rt)?;
     damaged_pairs(&rt)?;
+    damaged_channels(&rt)?;
     damaged_slots(&rt)
 }

@@ -10,7 +10,7 @@ use Rattle.lamport.specs.declared.Kind.{Kind}
 use Rattle.lamport.specs.declared.Kind.TheVariants.{Request, Ack, Release}
 use Rattle.lamport.specs.declared.Message.{Message}
 use Rattle.lamport.specs.declared.Step.TheVariants.{Carry}
-use Rattle.words.specs.Places.{clock_at, phase_at, entry_at, heard_at, chan, count_at, kind_at, stamp_at, benches, clock, entry, heard, count, kind, stamp}
+use Rattle.words.specs.Places.{most, slots, last_slot, clock_at, phase_at, entry_at, heard_at, chan, count_at, kind_at, stamp_at, benches, clock, entry, heard, count, kind, stamp}
 use Rattle.words.specs.View.{view}
 
 -- ---- channels
@@ -34,7 +34,7 @@ moved c i t = set (set t (kind_at c i) (kind t c (i + 1))) (stamp_at c i) (stamp
 
 -- channel c without its oldest message: every other slot moves up by one, and the last is empty
 unfoldable pub popped : List ℕ → ℕ → List ℕ
-popped t c = set (set (set (up_to (moved c) 15 t) (kind_at c 15) 0) (stamp_at c 15) 0) (count_at c) (count t c - 1)
+popped t c = set (set (set (up_to (moved c) last_slot t) (kind_at c last_slot) 0) (stamp_at c last_slot) 0) (count_at c) (count t c - 1)
 
 -- ---- a bench by itself
 
@@ -56,9 +56,9 @@ marked t p = set t (clock_at p) (lc1 (clock t p))
 
 -- p is a bench number, and each channel from p has a free slot
 pub record Room (t : List ℕ) (p : ℕ) : Type 0 where
-  pub bench : p < 8
-  pub few : benches t ≤ 8
-  pub room : (q : ℕ) → q < benches t → (q ≡ p → ⊥) → count t (chan p q) < 16
+  pub bench : p < most
+  pub few : benches t ≤ most
+  pub room : (q : ℕ) → q < benches t → (q ≡ p → ⊥) → count t (chan p q) < slots
 
 -- ---- a message is carried
 
@@ -81,12 +81,12 @@ carried t p q m = replied (received t p q m (clock_after (clock t q) m)) p q (cl
 
 -- what a carry from p to q wants of the table
 pub record Carries (t : List ℕ) (p q : ℕ) : Type 0 where
-  pub from : p < 8
-  pub to : q < 8
+  pub from : p < most
+  pub to : q < most
   pub apart : p ≡ q → ⊥
   pub some : 0 < length ((view t).messages p q)
   pub fits : clock_then (view t) (Carry p q) ≤ limit
-  pub room : is_request (first ((view t).messages p q)).kind ≡ true → length ((view t).messages q p) < 16
+  pub room : is_request (first ((view t).messages p q)).kind ≡ true → length ((view t).messages q p) < slots
 
 -- ---- a fresh table
 

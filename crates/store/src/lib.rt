@@ -6,7 +6,7 @@ ghost use Rattle.lamport.specs.Each.{up_to};
 ghost use Rattle.lamport.specs.Order.{limit};
 ghost use Rattle.lamport.specs.Steps.{first};
 ghost use Rattle.lamport.specs.Table.{phase_number};
-ghost use Rattle.words.specs.Places.{clock as clock_of, count as count_of, chan};
+ghost use Rattle.words.specs.Places.{most, slots, last_slot, clock as clock_of, count as count_of, chan};
 ghost use Rattle.words.specs.View.{view};
 ghost use Rattle.store.specs.Stores.{pushed, sent_to, sent, moved, popped, Room, Carries, acted, asked, left, entered, marked, received, carried, started};
 
@@ -22,7 +22,7 @@ use words::{
 // Puts a message on channel c, behind the others.
 #[tactic(auto, unfolding(crate::specs::Stores::pushed))]
 fn push(t: &mut Words, c: Channel, m: Message)
-    requires room { count_of t.old c.number < 16 }
+    requires room { count_of t.old c.number < slots }
     ensures { t.new ≡ pushed t.old c.number m }
 {
     let n = t[COUNTS + c.number];
@@ -34,7 +34,7 @@ fn push(t: &mut Words, c: Channel, m: Message)
 
 #[tactic(auto, unfolding(crate::specs::Stores::sent_to))]
 fn send(t: &mut Words, p: Bench, q: Bench, m: Message)
-    requires room { (q.number ≡ p.number → ⊥) → count_of t.old (chan p.number q.number) < 16 }
+    requires room { (q.number ≡ p.number → ⊥) → count_of t.old (chan p.number q.number) < slots }
     ensures { t.new ≡ sent_to p.number m q.number t.old }
 {
     if q != p {
@@ -54,7 +54,7 @@ fn broadcast(t: &mut Words, p: Bench, m: Message)
 }
 
 fn move_up(t: &mut Words, c: Channel, i: usize)
-    requires { i < 15 }
+    requires { i < last_slot }
     ensures { t.new ≡ moved c.number i t.old }
 {
     let slot = c.number * CHANNEL + i * SLOT;
@@ -167,7 +167,7 @@ pub fn carry(t: &mut Words, p: Bench, q: Bench)
 // ---- a fresh table
 
 pub fn start(t: &mut Words, n: usize, clock: u32)
-    requires { n ≤ 8 }
+    requires { n ≤ most }
     ensures { t.new ≡ up_to (started clock) n t.old }
 {
     for p in 0..n {

@@ -10,6 +10,9 @@ most = 8
 abbrev pub slots : ℕ
 slots = 16
 
+abbrev pub last_slot : ℕ
+last_slot = 15
+
 abbrev pub slot_words : ℕ
 slot_words = 2
 

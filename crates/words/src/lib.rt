@@ -5,7 +5,7 @@ ghost use Rattle.std.specs.Prelude.{◌≡◌, ◌&&◌, ◌+◌, ◌*◌, ◌<�
 ghost use Rattle.lamport.specs.Each.{all_below};
 ghost use Rattle.lamport.specs.Steps.{first};
 ghost use Rattle.lamport.specs.Table.{phase_number};
-ghost use Rattle.words.specs.Places.{kind_of, count as count_of, kind as kind_in, stamp as stamp_in};
+ghost use Rattle.words.specs.Places.{most, slots, size, kind_of, count as count_of, kind as kind_in, stamp as stamp_in};
 ghost use Rattle.words.specs.View.{view, Row};
 ghost use Rattle.words.specs.WellFormed.{phase_ok, own_ok, joined, own_entry, bench_ok, link_ok, slot_ok, pair_ok, row_ok, well_formed};
 
@@ -89,8 +89,8 @@ pub fn phase(t: &Table, p: Bench) -> Phase
 
 // The words of p in a block that has a word for each pair of benches.
 fn row(t: &Words, block: usize, p: Bench) -> &[u32]
-    requires fits { block + 64 ≤ 2258 }
-    ensures { Row result.now (λ q. get_or t.now (block + p.number * 8 + q) 0) }
+    requires fits { block + most * most ≤ size }
+    ensures { Row result.now (λ q. get_or t.now (block + p.number * most + q) 0) }
 {
     let words = &t[..];
     let at = block + p.number * MOST;
@@ -145,7 +145,7 @@ struct SlotWords {
 }
 
 fn slot_at(t: &Words, c: Channel, i: usize) -> SlotWords
-    requires { i < 16 }
+    requires { i < slots }
     ensures kind { result.kind ≡ kind_in t.now c.number i }
     ensures stamp { result.stamp ≡ stamp_in t.now c.number i }
 {
@@ -178,7 +178,7 @@ pub fn oldest(t: &Words, p: Bench, q: Bench) -> Message
 
 // A slot in use has a kind that is named and a stamp; any other is zero.
 fn slot_ok(t: &Words, c: Channel, i: usize) -> bool
-    requires { i < 16 }
+    requires { i < slots }
     ensures { result ≡ slot_ok t.now c.number i }
 {
     let slot = slot_at(t, c, i);
@@ -189,7 +189,7 @@ fn slot_ok(t: &Words, c: Channel, i: usize) -> bool
 }
 
 fn slots_ok(t: &Words, c: Channel) -> bool
-    ensures { result ≡ all_below (slot_ok t.now c.number) 16 }
+    ensures { result ≡ all_below (slot_ok t.now c.number) slots }
 {
     (0..SLOTS).all(|i| slot_ok(t, c, i))
 }
@@ -228,7 +228,7 @@ fn pair_ok(t: &Words, p: Bench, q: Bench) -> bool
 }
 
 fn pairs_ok(t: &Words, p: Bench) -> bool
-    ensures { result ≡ all_below (pair_ok t.now p.number) 8 }
+    ensures { result ≡ all_below (pair_ok t.now p.number) most }
 {
     (0..MOST).all(|q| pair_ok(t, p, Bench::new(q)))
 }
@@ -263,7 +263,7 @@ fn row_ok(t: &Words, p: Bench) -> bool
 }
 
 fn rows_ok(t: &Words) -> bool
-    ensures { result ≡ all_below (row_ok t.now) 8 }
+    ensures { result ≡ all_below (row_ok t.now) most }
 {
     (0..MOST).all(|p| row_ok(t, Bench::new(p)))
 }

@@ -1,7 +1,7 @@
 // Bench numbers and channel numbers, which a table has words for: two types, so that none is taken for the other. Two benches stay two arguments: at each function the pair means something else.
 
-ghost use Rattle.std.specs.Prelude.{◌≡◌, ◌<◌};
-ghost use Rattle.words.specs.Places.{chan};
+ghost use Rattle.std.specs.Prelude.{◌≡◌, ◌<◌, ◌*◌};
+ghost use Rattle.words.specs.Places.{most, chan};
 
 use crate::MOST;
 
@@ -9,12 +9,12 @@ use crate::MOST;
 #[derive(Clone, Copy, PartialEq, Eq)]
 pub struct Bench {
     pub number: usize,
-    ghost low: { number < 8 },
+    ghost low: { number < most },
 }
 
 impl Bench {
     pub fn new(number: usize) -> Bench
-        requires { number < 8 }
+        requires { number < most }
         ensures { result.number ≡ number }
     {
         Bench { number }
@@ -25,7 +25,7 @@ impl Bench {
 #[derive(Clone, Copy)]
 pub struct Channel {
     pub number: usize,
-    ghost low: { number < 64 },
+    ghost low: { number < most * most },
 }
 
 impl Channel {

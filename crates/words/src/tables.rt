@@ -1,6 +1,7 @@
 // Words that are known to be a table.
 
 ghost use Rattle.std.specs.Prelude.{◌≡◌, true, ◌≤◌};
+ghost use Rattle.words.specs.Places.{most};
 ghost use Rattle.words.specs.View.{view};
 ghost use Rattle.words.specs.WellFormed.{well_formed};
 
@@ -16,7 +17,7 @@ pub struct Table<'a> {
 impl Table<'_> {
     pub fn benches(&self) -> usize
         ensures number { result ≡ (view self.now.words.now).benches }
-        ensures few { result ≤ 8 }
+        ensures few { result ≤ most }
     {
         benches(self.words)
     }
