@@ -4,11 +4,11 @@ use mathlib.Core.List.{List, [], ◌∷◌, ◌++◌}
 use Prim.Native.Nat.{ℕ}
 use lib.ListN.{drop}
 use Rattle.std.specs.Prelude.{Option, Some, None}
-use Rattle.schedule.specs.Parts.{tab, up_to, parts, IsCut}
+use Rattle.schedule.specs.Parts.{tab, parts, IsCut}
 use Rattle.schedule.specs.Number.{number_of}
 use Rattle.schedule.specs.Lines.{line_for, on_number, reading, fields_line, line_of}
 use Rattle.schedule.specs.declared.Line.{Line}
-use Rattle.schedule.proofs.PartsLaws.{parts-cons}
+use Rattle.schedule.proofs.PartsLaws.{up_to, parts-cons}
 
 -- the next field, with more behind it
 module _ (word numbers rest : List ℕ) {f after : List ℕ} (cut : IsCut tab rest f after) where

@@ -12,7 +12,12 @@ use Rattle.std.proofs.lemmas.Bool.Decides.{nat_tests}
 use Rattle.std.proofs.lemmas.List.Recursion.{is_count_by, is_position_or_len}
 use Rattle.std.proofs.lemmas.List.Splits.{slice_split_first, length-slice_split}
 use Rattle.std.proofs.lemmas.List.Sums.{count_by-le-length, prefix_len-le-length, split_at_first, passes_at_first}
-use Rattle.schedule.specs.Parts.{up_to, parts, count, on_first, IsCut}
+use Rattle.schedule.specs.Parts.{parts, count, on_first, IsCut}
+
+-- the part of a text before its first b, or all of it where there is none
+unfoldable pub up_to : ℕ → List ℕ → List ℕ
+up_to b [] = []
+up_to b (x ∷ xs) = cond (eqb x b) [] (x ∷ up_to b xs)
 
 -- in std's words
 module _ (b : ℕ) where
@@ -64,9 +69,6 @@ parts-cons b (x ∷ xs) = go (parts-cons b xs) (eqb x b)
     go : parts b xs ≡ up_to b xs ∷ drop 1 (parts b xs) → (t : Bool) → cond t ([] ∷ parts b xs) (on_first x (parts b xs)) ≡ cond t [] (x ∷ up_to b xs) ∷ drop 1 (cond t ([] ∷ parts b xs) (on_first x (parts b xs)))
     go e true = refl
     go e false = rw e
-
-pub first_part : (b : ℕ) (s : List ℕ) {p : List ℕ} {ps : List (List ℕ)} → parts b s ≡ p ∷ ps → up_to b s ≡ p
-first_part b s e = let h = parts-cons b s in cc
 
 -- a text with a b in it: its first part, and the parts of what follows the b
 pub parts_cut : (b : ℕ) (s : List ℕ) → length (up_to b s) < length s → parts b s ≡ up_to b s ∷ parts b (drop (length (up_to b s) + 1) s)

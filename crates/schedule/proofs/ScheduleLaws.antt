@@ -13,13 +13,13 @@ use Rattle.std.specs.Result.{result_map_both}
 use Rattle.lamport.specs.Table.{sizes_ok}
 use Rattle.lamport.specs.declared.Setup.{Setup}
 use Rattle.lamport.specs.declared.Step.{Step}
-use Rattle.schedule.specs.Parts.{lf, up_to, parts, IsCut}
+use Rattle.schedule.specs.Parts.{lf, parts, IsCut}
 use Rattle.schedule.specs.Lines.{line_of}
 use Rattle.schedule.specs.Schedule.{if_step, bad_line, bad_sizes, check_steps, check_header, check_lines, check_of, on_step, steps_of, schedule_steps}
 use Rattle.schedule.specs.declared.Line.{Line}
 use Rattle.schedule.specs.declared.Line.TheVariants as L
 use Rattle.schedule.specs.declared.Refused.{Refused}
-use Rattle.schedule.proofs.PartsLaws.{up_to-short, parts-cons, parts-one, length_cut, count_cut}
+use Rattle.schedule.proofs.PartsLaws.{up_to, up_to-short, parts-cons, parts-one, length_cut, count_cut}
 
 -- a line in front of what follows its LF, which is one part or more
 module _ (s l rest : List ℕ) (parted : parts lf s ≡ l ∷ parts lf rest) where

@@ -7,11 +7,6 @@ lf = 10
 abbrev pub tab : ℕ
 tab = 9
 
--- the part of a text before its first b, or all of it where there is none
-unfoldable pub up_to : ℕ → List ℕ → List ℕ
-up_to b [] = []
-up_to b (x ∷ xs) = cond (eqb x b) [] (x ∷ up_to b xs)
-
 -- a byte in front of the first of some parts
 unfoldable pub on_first : ℕ → List (List ℕ) → List (List ℕ)
 on_first x [] = (x ∷ []) ∷ []

@@ -1,10 +1,10 @@
 // The schedule as text: its lines and their fields, what each line says, and whether the whole can be run.
 #![tactic(auto)]
 
-ghost use Rattle.std.specs.Prelude.{◌≡◌, ◌≤◌, [], ◌∷◌, Some, Ok, true, MatchOption, IfOk, length, drop};
+ghost use Rattle.std.specs.Prelude.{◌≡◌, [], ◌∷◌, Some, Ok, true, MatchOption, IfOk};
 ghost use Rattle.lamport.specs.declared.Refusal.TheVariants.{BadLine};
 ghost use Rattle.lamport.specs.Table.{sizes_ok};
-ghost use Rattle.schedule.specs.Parts.{lf, tab, up_to, parts, IsCut, count as count_of};
+ghost use Rattle.schedule.specs.Parts.{lf, tab, parts, IsCut, count as count_of};
 ghost use Rattle.schedule.specs.Number.{digit_on, begins_ill, number_of};
 ghost use Rattle.schedule.specs.Lines.{one_bench, two_benches, header as header_of, reading, line_of};
 ghost use Rattle.schedule.specs.Schedule.{check_steps, check_of};
@@ -28,30 +28,11 @@ pub fn cut_line(text: &[u8]) -> Option<(&[u8], &[u8])>
     cut(text, b'\n')
 }
 
-// The front of a text up to its first b, or all of it: a part of the text's own bytes.
-#[tactic(auto, using(crate::proofs::PartsLaws::first_part))]
-fn up_to(text: &[u8], b: u8) -> &[u8]
-    ensures { result.now ≡ up_to b text.now }
+// The first field of a line, and what follows its tab: parts of the schedule's own bytes. `None` where no tab ends it.
+fn cut_field(line: &[u8]) -> Option<(&[u8], &[u8])>
+    ensures { MatchOption result (parts tab line.now ≡ line.now ∷ []) (λ x. IsCut tab line.now x.0.now x.1.now) }
 {
-    match cut(text, b) {
-        Some((front, _)) => front,
-        None => text,
-    }
-}
-
-// The line that begins at `at`, without its LF: a part of the schedule's own bytes. It stays for its promise, which speaks of a place; `cut_line` needs none.
-pub fn line_at(schedule: &[u8], at: usize) -> &[u8]
-    requires { at ≤ length schedule.now }
-    ensures { result.now ≡ up_to lf (drop at schedule.now) }
-{
-    up_to(&schedule[at..], b'\n')
-}
-
-// The first field of a line, up to its first tab: a part of the schedule's own bytes. The reader of lines cuts, and this stays for its promise.
-pub fn field(line: &[u8]) -> &[u8]
-    ensures { result.now ≡ up_to tab line.now }
-{
-    up_to(line, b'\t')
+    cut(line, b'\t')
 }
 
 // How many b there are in a text.
@@ -150,7 +131,7 @@ fn two_benches(word: &[u8], p: u32, q: u32) -> Option<Line>
 fn first_number(word: &[u8], rest: &[u8]) -> Option<Line>
     ensures { result ≡ reading word.now [] (parts tab rest.now) }
 {
-    match cut(rest, b'\t') {
+    match cut_field(rest) {
         Some((next, rest)) => second_number(word, number_of(next)?, rest),
         None => one_bench(word, number_of(rest)?),
     }
@@ -161,7 +142,7 @@ fn first_number(word: &[u8], rest: &[u8]) -> Option<Line>
 fn second_number(word: &[u8], x: u32, rest: &[u8]) -> Option<Line>
     ensures { result ≡ reading word.now (x ∷ []) (parts tab rest.now) }
 {
-    match cut(rest, b'\t') {
+    match cut_field(rest) {
         Some((next, rest)) => third_number(word, x, number_of(next)?, rest),
         None => two_benches(word, x, number_of(rest)?),
     }
@@ -172,7 +153,7 @@ fn second_number(word: &[u8], x: u32, rest: &[u8]) -> Option<Line>
 fn third_number(word: &[u8], x: u32, y: u32, rest: &[u8]) -> Option<Line>
     ensures { result ≡ reading word.now (x ∷ y ∷ []) (parts tab rest.now) }
 {
-    match cut(rest, b'\t') {
+    match cut_field(rest) {
         Some(_) => None,
         None => header(word, x, y, number_of(rest)?),
     }
@@ -183,7 +164,7 @@ fn third_number(word: &[u8], x: u32, y: u32, rest: &[u8]) -> Option<Line>
 pub fn line_of(line: &[u8]) -> Option<Line>
     ensures { result ≡ line_of line.now }
 {
-    let (word, rest) = cut(line, b'\t')?;
+    let (word, rest) = cut_field(line)?;
     first_number(word, rest)
 }
 
