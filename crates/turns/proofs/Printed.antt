@@ -4,7 +4,8 @@ use native.Mathlib.Omega.{arith}
 use mathlib.Core.Path.{◌≡◌, refl, sym, ap}
 use mathlib.Core.List.{List, [], ◌∷◌}
 use borrow.Author.Tests.{ne_eqb}
-use lib.ListN.{length, drop, length-append}
+use lib.ListN.{length, take, drop, length-append}
+use Rattle.std.proofs.Math.Seq.{take-append_seam}
 use Rattle.std.specs.Prelude.{Err}
 use Rattle.lamport.specs.Refusals.{number}
 use Rattle.lamport.proofs.Numbers.{number-some}
@@ -21,6 +22,10 @@ nothing (x ∷ xs) e = absurd (omega arith)
 pub within : {w out after : List ℕ} {n : ℕ} → Wrote w n out after → n ≤ length after
 unfolding over
 within {w} {out} {after} {n} a = let l = length-append w (drop (length w) out) in omega (arith, a.bytes, ap length a.text, l)
+
+pub written : {w out after : List ℕ} {n : ℕ} → Wrote w n out after → take n after ≡ w
+unfolding over
+written {w} {out} a = rw (a.bytes, a.text, take-append_seam w (drop (length w) out))
 
 module _ (o : Outcome) (r : Refused) (before after : List ℕ) (a : Answers o (Err r) before after) where
   pub untouched : after ≡ before

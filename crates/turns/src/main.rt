@@ -1,7 +1,8 @@
 // Reads a schedule from standard input, runs it, and prints its listing, or one line that says why it was refused.
 #![tactic(auto)]
 
-ghost use Rattle.std.specs.Prelude.{IfOk, ◌≤◌, length};
+ghost use Rattle.std.specs.Prelude.{IfOk, OnOk, IfSome, ◌≡◌, ◌≤◌, length, take};
+ghost use Rattle.std.specs.Io.KnownBytes.{Appends};
 ghost use Rattle.listing.specs.Write.{Wrote};
 ghost use Rattle.run.specs.Run.{run_of};
 ghost use Rattle.turns.specs.Shown.{shown};
@@ -19,11 +20,12 @@ const OUTPUT: usize = 65568;
 const BUDGET: usize = 65535;
 
 // Reads until the buffer is full or the input ends, and answers how many bytes are read.
-fn fill(reader: &mut impl Read, buf: &mut [u8]) -> io::Result<usize>
-    ensures { IfOk result (λ n. n ≤ length buf.new) }
+fn fill<R: Read>(reader: &mut R, buf: &mut [u8]) -> io::Result<usize>
+    ensures within { IfOk result (λ n. n ≤ length buf.new) }
+    ensures front { IfOk result (λ n. IfSome (R.remaining reader.old) (λ input. take n buf.new ≡ take (length buf.old) input)) }
 {
     let mut n = 0;
-    for _ in 0..=INPUT {
+    while n < buf.len() {
         let more = reader.read(&mut buf[n..])?;
         if more == 0 {
             break;
@@ -45,10 +47,18 @@ fn show(schedule: &[u8], out: &mut [u8]) -> usize
     }
 }
 
-fn main(rt: HostRuntime) -> io::Result<()> {
+// Reads a schedule, runs it, and writes what is printed of it and nothing else.
+fn run_all<R: Read, W: Write>(reader: &mut R, writer: &mut W) -> io::Result<()>
+    ensures { OnOk result (IfSome (R.remaining reader.old) (λ input.
+        Appends (W.contents writer.old) (W.contents writer.new) (shown (run_of input 65535 65568)))) }
+{
     let mut schedule = [0; INPUT];
-    let n = fill(&mut rt.reader(), &mut schedule)?;
+    let n = fill(reader, &mut schedule)?;
     let mut out = [0; OUTPUT];
     let bytes = show(&schedule[..n], &mut out);
-    io::writer(&rt).write_all(&out[..bytes])
+    writer.write_all(&out[..bytes])
+}
+
+fn main(rt: HostRuntime) -> io::Result<()> {
+    run_all(&mut rt.reader(), &mut io::writer(&rt))
 }

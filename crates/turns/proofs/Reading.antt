@@ -1,0 +1,44 @@
+-- What is read in place; and that a run tells a long input by its front.
+use Prim.Native.Nat.{ℕ, ◌+◌, ◌≤◌}
+use native.Mathlib.Omega.{arith}
+use mathlib.Core.Path.{◌≡◌, sym, ap, subst, ◌∙◌}
+use mathlib.Core.List.{List, ◌++◌}
+use borrow.Rule.Slice.PartMut.{put_mid, post_of}
+use lib.ListN.{length, take}
+use Rattle.std.specs.Prelude.{⊤, Option, Some, None, Result, Ok, Err, OnOk, IfSome}
+use Rattle.std.specs.Io.KnownBytes.{Appends}
+use Rattle.std.proofs.Common.{⊎_elim, length-take-le, take_all}
+use Rattle.std.proofs.lemmas.Bool.{cases_lt}
+use Rattle.std.proofs.lemmas.List.{take-append-le}
+use Rattle.std.proofs.Math.Seq.{take-append-add}
+use Rattle.listing.specs.Write.{Wrote}
+use Rattle.run.specs.Run.{run_of}
+use Rattle.run.proofs.Whole.{run-long}
+use Rattle.turns.specs.Shown.{shown}
+use Rattle.turns.proofs.Printed.{written}
+
+-- n bytes are read into the part of the buffer that begins at a
+pub read_on : (a k n : ℕ) (xs ys : List ℕ) → a ≤ length xs → n ≤ length ys → take (a + n) (put_mid a k xs ys) ≡ take a xs ++ take n ys
+read_on a k n xs ys within fits =
+    ap (λ m. take (m + n) (put_mid a k xs ys)) (sym (length-take-le a xs within))
+    ∙ take-append-add (take a xs) (ys ++ post_of a k xs) n
+    ∙ ap (λ l. take a xs ++ l) (take-append-le n ys (post_of a k xs) fits)
+
+-- a byte more than the longest schedule is enough to tell that it is too long
+front_runs : (s : List ℕ) (budget room : ℕ) → run_of (take 12289 s) budget room ≡ run_of s budget room
+front_runs s budget room =
+    ⊎_elim
+    (λ h. run-long (take 12289 s) budget room (rw (length-take-le 12289 s (omega arith)) (omega arith)) ∙ sym (run-long s budget room (omega arith)))
+    (λ h. ap (λ t. run_of t budget room) (take_all 12289 s h))
+    (cases_lt 12289 (length s))
+
+module _ (buf out after : List ℕ) (n bytes : ℕ) (wrote : Wrote (shown (run_of (take n buf) 65535 65568)) bytes out after) where
+  printed : (input : List ℕ) → take n buf ≡ take 12289 input → take bytes after ≡ shown (run_of input 65535 65568)
+  printed input e = written wrote ∙ ap (λ s. shown (run_of s 65535 65568)) e ∙ ap shown (front_runs input 65535 65568)
+
+  -- what is printed of the input's front is what is printed of the input
+  pub told : {E : Type 0} (r : Result ⊤ E) (known a b : Option (List ℕ)) → OnOk r (Appends a b (take bytes after)) → IfSome known (λ input. take n buf ≡ take 12289 input)
+      → OnOk r (IfSome known (λ input. Appends a b (shown (run_of input 65535 65568))))
+  told (Ok x) (Some input) a b w e = subst (Appends a b) (printed input e) w
+  told (Ok x) None a b w e = tt
+  told (Err e) known a b w k = tt
