@@ -1,17 +1,17 @@
 -- The engine follows the rules over every list of steps, and so what is proved of the rules is true of its words.
-use Prim.Native.Nat.{ℕ, ◌<◌, ◌≤◌}
-use mathlib.Core.Path.{◌≡◌, refl, sym, ap, ◌∙◌, subst}
+use Prim.Native.Nat.{ℕ, ◌≤◌}
+use mathlib.Core.Path.{◌≡◌, refl, sym, ◌∙◌, subst}
 use mathlib.Core.Bool.{true}
 use mathlib.Core.List.{List, [], ◌∷◌}
 use Rattle.lamport.specs.Order.{limit}
 use Rattle.lamport.specs.Table.{sizes_ok, fresh}
-use Rattle.lamport.specs.Refusals.{answer, next, answers, after}
+use Rattle.lamport.specs.Refusals.{answers, after}
 use Rattle.lamport.specs.Starred.{Case, case, Holds, starred}
 use Rattle.lamport.proofs.Starred.{starred-hold}
 use Rattle.lamport.specs.declared.Step.{Step}
 use Rattle.words.specs.View.{view}
 use Rattle.words.specs.WellFormed.{well_formed}
-use Rattle.table.specs.Post.{Stepped, Made}
+use Rattle.table.specs.Post.{Made}
 use Rattle.table.proofs.Determined.{answered, follows, keeps}
 use Rattle.exclusion.specs.Demand.{Demand3}
 use Rattle.exclusion.proofs.Theorems.{demand3}

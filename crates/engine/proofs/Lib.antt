@@ -1,2 +1,3 @@
 -- The engine follows the rules, so that Demand3 is the engine's own.
 pub mod Engine
+pub mod Told

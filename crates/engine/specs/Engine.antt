@@ -1,5 +1,5 @@
 -- The engine over a list of steps: any answers and words that the contracts of `fresh` and `step` allow.
-use Rattle.std.specs.Prelude.{ℕ, ◌<◌, ◌≤◌, ◌≡◌, true, List, [], ◌∷◌}
+use Rattle.std.specs.Prelude.{ℕ, ◌<◌, ◌≤◌, ◌≡◌, ◌↔◌, true, List, [], ◌∷◌, Some}
 use Rattle.lamport.specs.Order.{limit}
 use Rattle.lamport.specs.Table.{holding, sizes_ok, fresh}
 use Rattle.lamport.specs.Refusals.{answers, after}
@@ -8,6 +8,7 @@ use Rattle.lamport.specs.declared.Step.{Step}
 use Rattle.words.specs.View.{view}
 use Rattle.words.specs.WellFormed.{well_formed}
 use Rattle.table.specs.Post.{Stepped, Made}
+use Rattle.report.specs.Report.{holder_cell}
 
 -- the steps ks, taken one after the other on the words t, are given the answers told and leave the words u
 pub data Taken : List ℕ → List Step → List ℕ → List ℕ → Type 0 where
@@ -31,3 +32,9 @@ abbrev pub OneHolds : Type 0
 OneHolds =
     (n capacity start : ℕ) (t u told : List ℕ) (ks : List Step) → sizes_ok n capacity ≡ true → start ≤ limit → Made n capacity start 0 t → Taken t ks told u →
     (p q : ℕ) → p < n → q < n → (view u).phase p ≡ holding → (view u).phase q ≡ holding → p ≡ q
+
+-- whatever steps were taken, the holder that a listing's line names after them is the one bench that holds
+abbrev pub HolderTold : Type 0
+HolderTold =
+    (n capacity start : ℕ) (ks : List Step) → sizes_ok n capacity ≡ true → start ≤ limit →
+    (p : ℕ) → p < n → ((after (fresh n capacity start) ks).phase p ≡ holding) ↔ (holder_cell (after (fresh n capacity start) ks) ≡ Some p)
