@@ -5,16 +5,34 @@ ghost use Rattle.std.specs.Prelude.{◌≤◌, [], ◌∷◌, length};
 ghost use Rattle.listing.specs.Write.{digits, Wrote};
 ghost use Rattle.listing.specs.Record.{cell_text, fields, record_text, word_line, end_text, refused_text};
 
-// x in decimal: the digits of x / 10, and the last one behind them.
+// x in decimal. Most numbers of a listing have one digit, and these call nothing.
 // By hand, since the contract names each byte that is written, and std's `write!` promises nothing of them.
+#[cycle(number)]
 #[tactic(auto, using(crate::proofs::Laws::length_small, crate::proofs::Laws::length_large))]
 pub fn put_number(out: &mut [u8], x: usize) -> usize
     requires { length (digits x) ≤ length out.old }
     ensures { Wrote (digits x) result out.old out.new }
 {
-    let at = if x < 10 { 0 } else { put_number(out, x / 10) };
-    out[at] = b'0' + (x % 10) as u8;
-    at + 1
+    if x < 10 {
+        out[0] = b'0' + x as u8;
+        return 1;
+    }
+    put_long(out, x)
+}
+
+// The digits of x / 100, and the last two behind them.
+#[cycle(number)]
+#[tactic(auto, using(crate::proofs::Laws::length_small, crate::proofs::Laws::length_large))]
+fn put_long(out: &mut [u8], x: usize) -> usize
+    requires long { 10 ≤ x }
+    requires room { length (digits x) ≤ length out.old }
+    ensures { Wrote (digits x) result out.old out.new }
+{
+    let tens = x / 10;
+    let at = if tens < 10 { 0 } else { put_number(out, tens / 10) };
+    out[at] = b'0' + (tens % 10) as u8;
+    out[at + 1] = b'0' + (x % 10) as u8;
+    at + 2
 }
 
 // A field of the listing: a number, or nothing, which is written `-`.

@@ -1,5 +1,0 @@
--- The measure is x.
-use Rattle.listing.proofs.+put_number.Given as goal
-
-abbrev pub decreases-put_number : goal.decreases-put_number
-decreases-put_number l = l.x
