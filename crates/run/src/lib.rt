@@ -127,8 +127,8 @@ pub fn run(schedule: &[u8], budget: usize, out: &mut [u8]) -> Result<usize, Refu
             line: 0,
         });
     }
-    let setup = schedule::check(schedule)?;
-    if out.len() < LINE_ROOM * schedule::count(schedule, b'\n') {
+    let checked = schedule::check(schedule)?;
+    if out.len() < LINE_ROOM * checked.lines {
         return Err(Refused {
             refusal: Refusal::NoRoom,
             line: 0,
@@ -137,5 +137,5 @@ pub fn run(schedule: &[u8], budget: usize, out: &mut [u8]) -> Result<usize, Refu
     let Some((_, lines)) = schedule::cut_line(schedule) else {
         unreachable!();
     };
-    Ok(put_listing(setup, lines, budget, out))
+    Ok(put_listing(checked.setup, lines, budget, out))
 }

@@ -13,7 +13,7 @@ use Rattle.std.specs.Result.{result_map_both}
 use Rattle.lamport.specs.Table.{sizes_ok}
 use Rattle.lamport.specs.declared.Setup.{Setup}
 use Rattle.lamport.specs.declared.Step.{Step}
-use Rattle.schedule.specs.Parts.{lf, parts, IsCut}
+use Rattle.schedule.specs.Parts.{lf, parts, count, IsCut}
 use Rattle.schedule.specs.Lines.{line_of}
 use Rattle.schedule.specs.Schedule.{if_step, bad_line, bad_sizes, check_steps, check_header, check_lines, check_of, on_step, steps_of, schedule_steps}
 use Rattle.schedule.specs.declared.Line.{Line}
@@ -82,7 +82,7 @@ module _ (s : List ℕ) {l rest : List ℕ} (cut : IsCut lf s l rest) where
 
 pub ruleset stepping = (steps_at_step, steps_at_header, steps_at_bad, steps_uncut, length_cut, count_cut)
 
-pub ruleset checking = (check_at_step, check_at_header, check_at_bad, check_open, length_cut)
+pub ruleset checking = (check_at_step, check_at_header, check_at_bad, check_open, length_cut, count_cut)
 
 -- what is good is only handed on: a refusal is the same, whatever it is
 other_good : {A B : Type 0} (a : A) (b : B) (k : ℕ) (ls : List (List ℕ)) → check_steps (Ok b) k ls ≡ result_map_both (λ _. b) (λ x. x) (check_steps (Ok a) k ls)
@@ -100,6 +100,10 @@ other_good a b k (l ∷ m ∷ ls) = go (line_of l) (other_good a b (suc k) (m �
     go (Some (L.Step x)) e = e
     go None e = refl
 
+-- and it is what was handed on
+pub same_good : {A : Type 0} (a b : A) (k : ℕ) (ls : List (List ℕ)) → check_steps (Ok a) k ls ≡ Ok b → b ≡ a
+same_good a b k ls e = let h = rw e at (other_good a a k ls) in cc
+
 -- a schedule by what its first line says
 module _ (s : List ℕ) {l rest : List ℕ} (cut : IsCut lf s l rest) where
   pub heads_bad : line_of l ≡ None → check_of s ≡ bad_line 1
@@ -115,15 +119,15 @@ module _ (s : List ℕ) {l rest : List ℕ} (cut : IsCut lf s l rest) where
     unfolding check_header
     heads_ill h = rw (e, h) at (check_headed s l rest cut.parted)
 
-    heads_well : sizes_ok setup.benches setup.capacity ≡ true → check_of s ≡ result_map_both (λ _. setup) (λ x. x) (check_steps (Ok (tt {0})) 2 (parts lf rest))
+    heads_well : (n : ℕ) → sizes_ok setup.benches setup.capacity ≡ true → check_of s ≡ result_map_both (λ _. setup) (λ x. x) (check_steps (Ok n) 2 (parts lf rest))
     unfolding check_header
-    heads_well h = rw (e, h) at (check_headed s l rest cut.parted) ∙ other_good tt setup 2 (parts lf rest)
+    heads_well n h = rw (e, h) at (check_headed s l rest cut.parted) ∙ other_good n setup 2 (parts lf rest)
 
-    pub heads_good : sizes_ok setup.benches setup.capacity ≡ true → check_steps (Ok (tt {0})) 2 (parts lf rest) ≡ Ok tt → check_of s ≡ Ok setup
-    heads_good h k = rw k at (heads_well h)
+    pub heads_good : {n : ℕ} → sizes_ok setup.benches setup.capacity ≡ true → check_steps (Ok (count lf rest + 1)) 2 (parts lf rest) ≡ Ok n → check_of s ≡ Ok setup
+    heads_good h k = rw k at (heads_well (count lf rest + 1) h)
 
-    pub heads_refused : {x : Refused} → sizes_ok setup.benches setup.capacity ≡ true → check_steps (Ok (tt {0})) 2 (parts lf rest) ≡ Err x → check_of s ≡ Err x
-    heads_refused h k = rw k at (heads_well h)
+    pub heads_refused : {x : Refused} → sizes_ok setup.benches setup.capacity ≡ true → check_steps (Ok (count lf rest + 1)) 2 (parts lf rest) ≡ Err x → check_of s ≡ Err x
+    heads_refused h k = rw k at (heads_well (count lf rest + 1) h)
 
 pub ruleset heading = (heads_bad, heads_step, heads_ill, heads_good, heads_refused, check_empty)
 

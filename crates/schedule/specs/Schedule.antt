@@ -8,6 +8,7 @@ use Rattle.schedule.specs.Parts.{lf, parts}
 use Rattle.schedule.specs.Lines.{line_of}
 use Rattle.schedule.specs.declared.Line.{Line}
 use Rattle.schedule.specs.declared.Line.TheVariants as L
+use Rattle.schedule.specs.declared.Checked.{Checked}
 use Rattle.schedule.specs.declared.Refused.{Refused}
 
 -- what f makes of the step that a line is, and `other` where it is none
@@ -46,6 +47,11 @@ check_lines (h ∷ l ∷ ls) = check_header (line_of h) (l ∷ ls)
 -- a schedule, by its lines
 unfoldable pub check_of : List ℕ → Result Setup Refused
 check_of s = check_lines (parts lf s)
+
+-- of a schedule that was checked the table that it asks for, or the refusal
+abbrev pub setup_in : Result Checked Refused → Result Setup Refused
+setup_in (Ok c) = Ok c.setup
+setup_in (Err r) = Err r
 
 -- a line's step in front of the steps after it; a line that is no step ends them
 abbrev pub on_step : Option Line → List Step → List Step

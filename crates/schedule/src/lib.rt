@@ -1,13 +1,13 @@
 // The schedule as text: its lines and their fields, what each line says, and whether the whole can be run.
 #![tactic(auto)]
 
-ghost use Rattle.std.specs.Prelude.{◌≡◌, [], ◌∷◌, Some, Ok, true, MatchOption, IfOk};
+ghost use Rattle.std.specs.Prelude.{◌≡◌, ◌+◌, [], ◌∷◌, Some, Ok, true, MatchOption, IfOk};
 ghost use Rattle.lamport.specs.declared.Refusal.TheVariants.{BadLine};
 ghost use Rattle.lamport.specs.Table.{sizes_ok};
 ghost use Rattle.schedule.specs.Parts.{lf, tab, parts, IsCut, count as count_of};
 ghost use Rattle.schedule.specs.Number.{digit_on, begins_ill, number_of};
 ghost use Rattle.schedule.specs.Lines.{one_bench, two_benches, header as header_of, reading, line_of};
-ghost use Rattle.schedule.specs.Schedule.{check_steps, check_of};
+ghost use Rattle.schedule.specs.Schedule.{check_steps, check_of, setup_in};
 
 use lamport::{Refusal, Setup, Step};
 
@@ -33,13 +33,6 @@ fn cut_field(line: &[u8]) -> Option<(&[u8], &[u8])>
     ensures { MatchOption result (parts tab line.now ≡ line.now ∷ []) (λ x. IsCut tab line.now x.0.now x.1.now) }
 {
     cut(line, b'\t')
-}
-
-// How many b there are in a text.
-pub fn count(text: &[u8], b: u8) -> usize
-    ensures { result ≡ count_of b text.now }
-{
-    text.iter().filter(|x| **x == b).count()
 }
 
 // ---- numbers
@@ -187,10 +180,10 @@ fn bad_line(line: usize) -> Refused
     }
 }
 
-// The lines after the header, the first of which has the number 2: the first that is no step is refused.
+// The lines after the header, the first of which has the number 2: how many lines there are with the header, or the first that is no step.
 #[tactic(auto, using(crate::proofs::ScheduleLaws::checking))]
-fn check_steps(text: &[u8]) -> Result<(), Refused>
-    ensures { result ≡ check_steps (Ok tt) 2 (parts lf text.now) }
+fn check_steps(text: &[u8]) -> Result<usize, Refused>
+    ensures { result ≡ check_steps (Ok (count_of lf text.now + 1)) 2 (parts lf text.now) }
 {
     let mut rest = text;
     // No iterator over lines: the loop must know whether an LF ended the last, and the number that it counts is what a refusal gives.
@@ -206,14 +199,22 @@ fn check_steps(text: &[u8]) -> Result<(), Refused>
     if !rest.is_empty() {
         return Err(bad_line(number));
     }
-    Ok(())
+    Ok(number - 1)
 }
 
-// Whether the schedule can be run, and on which table. All that is refused here is found before the first step.
+// A schedule that can be run: the table that it asks for, and how many lines it has.
+#[derive(Clone, Copy)]
+pub struct Checked {
+    pub setup: Setup,
+    pub lines: usize,
+}
+
+// Whether the schedule can be run. All that is refused here is found before the first step.
 #[tactic(auto, using(crate::proofs::ScheduleLaws::heading))]
-pub fn check(schedule: &[u8]) -> Result<Setup, Refused>
-    ensures exact { result ≡ check_of schedule.now }
-    ensures sizes { IfOk result (λ setup. sizes_ok setup.benches setup.capacity ≡ true) }
+pub fn check(schedule: &[u8]) -> Result<Checked, Refused>
+    ensures exact { setup_in result ≡ check_of schedule.now }
+    ensures sizes { IfOk result (λ c. sizes_ok c.setup.benches c.setup.capacity ≡ true) }
+    ensures lines { IfOk result (λ c. c.lines ≡ count_of lf schedule.now) }
 {
     // No LF ends the line, as in an empty file.
     let Some((line, rest)) = cut_line(schedule) else {
@@ -228,6 +229,6 @@ pub fn check(schedule: &[u8]) -> Result<Setup, Refused>
             line: 1,
         });
     }
-    check_steps(rest)?;
-    Ok(setup)
+    let lines = check_steps(rest)?;
+    Ok(Checked { setup, lines })
 }
