@@ -35,12 +35,23 @@ digits-large x h f =
     let s : x / 10 < 10 ^ 19 = omega arith in
     rw (le-ltb x 10 h) (ap (λ (l : List ℕ). l ++ ((48 + x % 10) ∷ [])) (enough 18 (x / 10) s))
 
+-- the last two digits, of a number that has no more and of any other
+pub digits-two : (x : ℕ) → 10 ≤ x → x < 100 → digits x ≡ ((48 + x / 10 % 10) ∷ []) ++ ((48 + x % 10) ∷ [])
+digits-two x h k =
+    let tens : x / 10 % 10 ≡ x / 10 = omega arith in
+    rw (digits-large x h (omega (arith, k)), digits-small (x / 10) (omega (arith, k)), tens) refl
+
+pub digits-more : (x : ℕ) → 100 ≤ x → x < 2 ^ 64 → digits x ≡ (digits (x / 100) ++ ((48 + x / 10 % 10) ∷ [])) ++ ((48 + x % 10) ∷ [])
+digits-more x h f =
+    let front : x / 10 / 10 ≡ x / 100 = omega arith in
+    rw (digits-large x (omega (arith, h)) f, digits-large (x / 10) (omega (arith, h)) (omega (arith, f)), front) refl
+
 -- how many digits that is
 pub length_small : (x : ℕ) → x < 10 → length (digits x) ≡ 1
 length_small x h = ap length (digits-small x h)
 
-pub length_large : (x : ℕ) → 10 ≤ x → x < 2 ^ 64 → length (digits x) ≡ length (digits (x / 10)) + 1
-length_large x h f = ap length (digits-large x h f) ∙ length-append (digits (x / 10)) _
+pub length_more : (x : ℕ) → 100 ≤ x → x < 2 ^ 64 → length (digits x) ≡ length (digits (x / 100)) + 2
+length_more x h f = rw (digits-more x h f, length-append (digits (x / 100) ++ ((48 + x / 10 % 10) ∷ [])) ((48 + x % 10) ∷ []), length-append (digits (x / 100)) ((48 + x / 10 % 10) ∷ [])) (omega arith)
 
 -- a number below 10 ^ (k + 1) has at most k + 1 digits
 either_short : (b : Bool) (l m : List ℕ) (n : ℕ) → length l ≤ n → length m ≤ n → length (cond b l m) ≤ n
@@ -85,6 +96,11 @@ over-snoc w out l at b did h =
       bytes = rw length-append (omega (arith, did.bytes));
       text = rw (did.text, drop-cons out (length w) 0 k, set_at w _ _ b at (sym did.bytes), length-append, append_snoc, add-one);
     }
+
+-- nothing is written
+pub over-none : (out : List ℕ) → Wrote [] 0 out out
+unfolding over
+over-none out = record { bytes = refl; text = refl }
 
 -- one byte, stored at the front
 pub over-one : (out : List ℕ) (b : ℕ) (w : List ℕ) → 0 < length out → w ≡ b ∷ [] → Wrote w 1 out (set out 0 b)
@@ -153,9 +169,6 @@ pub number_short : (k x : ℕ) → x < 10 ^ suc k → length (cell_text (Some x)
 unfolding cell_text
 number_short k x h = digits-within k x h
 
-pub clock-short : (x : ℕ) → x ≤ 4294967295 → length (cell_text (Some x)) ≤ 10
-clock-short x h = number_short 9 x (omega arith)
-
 pub dash_short : length (cell_text None) ≤ 1
 unfolding cell_text
 dash_short = omega arith
@@ -173,10 +186,6 @@ line-length word a b = simp length-append (omega arith)
 pub end_short : (taken refused : ℕ) → taken < 100000 → refused < 100000 → length (end_text taken refused) ≤ 32
 unfolding end_text
 end_short k f h g = rw (line-length _ k f) (omega (arith, number_short 4 k h, number_short 4 f g))
-
-pub refused-short : (number line : ℕ) → number < 100000 → line < 100000 → length (refused_text number line) ≤ 32
-unfolding refused_text
-refused-short k f h g = rw (line-length _ k f) (omega (arith, number_short 4 k h, number_short 4 f g))
 
 -- whatever the numbers
 pub refused-fits : (number line : ℕ) → length (refused_text number line) ≤ 50

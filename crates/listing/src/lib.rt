@@ -1,38 +1,50 @@
 // The listing as text. Each writer puts its text over the front of `out`, answers how long the text is, and leaves the bytes after it. The caller lends the bytes, and there is no heap for a String.
 #![tactic(auto)]
 
-ghost use Rattle.std.specs.Prelude.{◌≤◌, [], ◌∷◌, length};
+ghost use Rattle.std.specs.Prelude.{◌<◌, ◌≤◌, [], ◌∷◌, length};
 ghost use Rattle.listing.specs.Write.{digits, Wrote};
 ghost use Rattle.listing.specs.Record.{cell_text, fields, record_text, word_line, end_text, refused_text};
 
-// x in decimal. Most numbers of a listing have one digit, and these call nothing.
-// By hand, since the contract names each byte that is written, and std's `write!` promises nothing of them.
-#[cycle(number)]
-#[tactic(auto, using(crate::proofs::Laws::length_small, crate::proofs::Laws::length_large))]
-pub fn put_number(out: &mut [u8], x: usize) -> usize
-    requires { length (digits x) ≤ length out.old }
+// The digit x, by itself.
+#[tactic(auto, using(crate::proofs::Laws::length_small))]
+fn put_digit(out: &mut [u8], x: usize) -> usize
+    requires digit { x < 10 }
+    requires room { length (digits x) ≤ length out.old }
     ensures { Wrote (digits x) result out.old out.new }
 {
-    if x < 10 {
-        out[0] = b'0' + x as u8;
-        return 1;
-    }
-    put_long(out, x)
+    out[0] = b'0' + x as u8;
+    1
 }
 
 // The digits of x / 100, and the last two behind them.
-#[cycle(number)]
-#[tactic(auto, using(crate::proofs::Laws::length_small, crate::proofs::Laws::length_large))]
 fn put_long(out: &mut [u8], x: usize) -> usize
     requires long { 10 ≤ x }
     requires room { length (digits x) ≤ length out.old }
     ensures { Wrote (digits x) result out.old out.new }
 {
-    let tens = x / 10;
-    let at = if tens < 10 { 0 } else { put_number(out, tens / 10) };
-    out[at] = b'0' + (tens % 10) as u8;
+    let at = if x < 100 {
+        0
+    } else if x < 1000 {
+        put_digit(out, x / 100)
+    } else {
+        put_long(out, x / 100)
+    };
+    out[at] = b'0' + (x / 10 % 10) as u8;
     out[at + 1] = b'0' + (x % 10) as u8;
     at + 2
+}
+
+// x in decimal. Most numbers of a listing have one digit, and these go no further.
+// By hand, since the contract names each byte that is written, and std's `write!` promises nothing of them.
+pub fn put_number(out: &mut [u8], x: usize) -> usize
+    requires { length (digits x) ≤ length out.old }
+    ensures { Wrote (digits x) result out.old out.new }
+{
+    if x < 10 {
+        put_digit(out, x)
+    } else {
+        put_long(out, x)
+    }
 }
 
 // A field of the listing: a number, or nothing, which is written `-`.

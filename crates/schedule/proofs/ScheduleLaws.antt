@@ -1,10 +1,8 @@
 -- A schedule from a line on: what is checked of it, and its steps.
 use mathlib.Core.Bool.{Bool, true, false, cond}
 use mathlib.Core.List.{List, [], ◌∷◌}
-use mathlib.Core.Logic.{⊎_elim}
 use mathlib.Core.Path.{◌≡◌, refl, ◌∙◌}
-use Prim.Native.Nat.{ℕ, suc, ◌+◌, ◌<◌}
-use native.Mathlib.Nat.{eq-or-lt_of_le}
+use Prim.Native.Nat.{ℕ, suc, ◌+◌}
 use native.Mathlib.Numerals.{add-one}
 use lib.Dec.{eqb}
 use lib.ListN.{length}
@@ -130,7 +128,3 @@ module _ (s : List ℕ) {l rest : List ℕ} (cut : IsCut lf s l rest) where
     heads_refused h k = rw k at (heads_well (count lf rest + 1) h)
 
 pub ruleset heading = (heads_bad, heads_step, heads_ill, heads_good, heads_refused, check_empty)
-
--- a good schedule has a first line
-pub check_good : (s : List ℕ) {setup : Setup} → check_of s ≡ Ok setup → length (up_to lf s) < length s
-check_good s p = ⊎_elim (λ e. absurd (let r = check_empty s (parts-one lf s e) in cc)) (λ h. h) (eq-or-lt_of_le (up_to-short lf s))

@@ -77,12 +77,3 @@ module _ (n k c : ℕ) (z : List ℕ) (zs : z ≡ replicate size 0) where
         done = λ _. ap view q ∙ started-view z sz nought n k c (some n k e) (few n k e) (room n k e) (slots n k e);
         formed = λ _. ap well_formed q ∙ started-wf z sz nought n k c (some n k e) (few n k e) (room n k e) (slots n k e);
       }
-
-  pub unmade : sizes_ok n k ≡ false → Made n k c 9 z
-  unmade e =
-      record {
-        answered = ap (λ (x : Bool). cond {A = ℕ} x 0 9) (sym e);
-        zero = λ _. zs;
-        done = λ f. let bad : true ≡ false = sym f ∙ e in cc;
-        formed = λ f. let bad : true ≡ false = sym f ∙ e in cc;
-      }
