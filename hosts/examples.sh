@@ -2,7 +2,7 @@
 # Builds the library and both examples, and compares what each prints with expected.txt.
 set -eu
 cd "$(dirname "$0")"
-library=$(./library.sh 2>/dev/null)
+library=$(./library.sh)
 built=$(mktemp -d)
 trap 'rm -rf "$built"' EXIT
 

@@ -36,22 +36,26 @@ digits-large x h f =
     rw (le-ltb x 10 h) (ap (λ (l : List ℕ). l ++ ((48 + x % 10) ∷ [])) (enough 18 (x / 10) s))
 
 -- the last two digits, of a number that has no more and of any other
-pub digits-two : (x : ℕ) → 10 ≤ x → x < 100 → digits x ≡ ((48 + x / 10 % 10) ∷ []) ++ ((48 + x % 10) ∷ [])
+pub digits-two : (x : ℕ) → 10 ≤ x → x < 100 → digits x ≡ ((48 + x % 100 / 10) ∷ []) ++ ((48 + x % 100 % 10) ∷ [])
 digits-two x h k =
-    let tens : x / 10 % 10 ≡ x / 10 = omega arith in
-    rw (digits-large x h (omega (arith, k)), digits-small (x / 10) (omega (arith, k)), tens) refl
+    let tens : x % 100 / 10 ≡ x / 10 = omega arith in
+    let ones : x % 100 % 10 ≡ x % 10 = omega arith in
+    rw (digits-large x h (omega (arith, k)), digits-small (x / 10) (omega (arith, k)), tens, ones) refl
 
-pub digits-more : (x : ℕ) → 100 ≤ x → x < 2 ^ 64 → digits x ≡ (digits (x / 100) ++ ((48 + x / 10 % 10) ∷ [])) ++ ((48 + x % 10) ∷ [])
+pub digits-more : (x : ℕ) → 100 ≤ x → x < 2 ^ 64 → digits x ≡ (digits (x / 100) ++ ((48 + x % 100 / 10) ∷ [])) ++ ((48 + x % 100 % 10) ∷ [])
 digits-more x h f =
     let front : x / 10 / 10 ≡ x / 100 = omega arith in
-    rw (digits-large x (omega (arith, h)) f, digits-large (x / 10) (omega (arith, h)) (omega (arith, f)), front) refl
+    let tens : x % 100 / 10 ≡ x / 10 % 10 = omega arith in
+    let ones : x % 100 % 10 ≡ x % 10 = omega arith in
+    rw (digits-large x (omega (arith, h)) f, digits-large (x / 10) (omega (arith, h)) (omega (arith, f)), front, tens, ones) refl
 
 -- how many digits that is
 pub length_small : (x : ℕ) → x < 10 → length (digits x) ≡ 1
 length_small x h = ap length (digits-small x h)
 
 pub length_more : (x : ℕ) → 100 ≤ x → x < 2 ^ 64 → length (digits x) ≡ length (digits (x / 100)) + 2
-length_more x h f = rw (digits-more x h f, length-append (digits (x / 100) ++ ((48 + x / 10 % 10) ∷ [])) ((48 + x % 10) ∷ []), length-append (digits (x / 100)) ((48 + x / 10 % 10) ∷ [])) (omega arith)
+length_more x h f =
+    rw (digits-more x h f, length-append (digits (x / 100) ++ ((48 + x % 100 / 10) ∷ [])) ((48 + x % 100 % 10) ∷ []), length-append (digits (x / 100)) ((48 + x % 100 / 10) ∷ [])) (omega arith)
 
 -- a number below 10 ^ (k + 1) has at most k + 1 digits
 either_short : (b : Bool) (l m : List ℕ) (n : ℕ) → length l ≤ n → length m ≤ n → length (cond b l m) ≤ n

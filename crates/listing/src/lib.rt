@@ -29,8 +29,9 @@ fn put_long(out: &mut [u8], x: usize) -> usize
     } else {
         put_long(out, x / 100)
     };
-    out[at] = b'0' + (x / 10 % 10) as u8;
-    out[at + 1] = b'0' + (x % 10) as u8;
+    let pair = x % 100;
+    out[at] = b'0' + (pair / 10) as u8;
+    out[at + 1] = b'0' + (pair % 10) as u8;
     at + 2
 }
 

@@ -8,7 +8,7 @@ use Rattle.listing.proofs.+put_long.Goals.{Joined-x-lt100, then-x-lt100, else-x-
 record Before (t : ℕ) (c : Joined-x-lt100 t) : Type 0 where
   front : List ℕ
   wrote : Wrote front c.if-x-lt100.at c.args.out.now c.if-x-lt100.out
-  whole : digits c.args.x ≡ (front ++ ((48 + c.args.x / 10 % 10) ∷ [])) ++ ((48 + c.args.x % 10) ∷ [])
+  whole : digits c.args.x ≡ (front ++ ((48 + c.args.x % 100 / 10) ∷ [])) ++ ((48 + c.args.x % 100 % 10) ∷ [])
 
 before : (t : ℕ) (c : Joined-x-lt100 t) → Before t c
 before t c =
@@ -24,7 +24,7 @@ before t c =
 ends : (t : ℕ) (c : Joined-x-lt100 t) → c.if-x-lt100.at + 2 ≡ length (digits c.args.x)
 ends t c =
     let b = before t c in
-    rw (b.whole, length-append (b.front ++ ((48 + c.args.x / 10 % 10) ∷ [])) ((48 + c.args.x % 10) ∷ []), length-append b.front ((48 + c.args.x / 10 % 10) ∷ []))
+    rw (b.whole, length-append (b.front ++ ((48 + c.args.x % 100 / 10) ∷ [])) ((48 + c.args.x % 100 % 10) ∷ []), length-append b.front ((48 + c.args.x % 100 / 10) ∷ []))
     (omega (arith, b.wrote.bytes))
 
 pub put_digit-requires-clause-room : goal.put_digit-requires-clause-room
@@ -42,7 +42,7 @@ overflow_add-out-3 t c = omega (arith, ends t (goal.at.overflow_add-out-3 t c).J
 
 pub bounds-out-at-2 : goal.bounds-out-at-2
 bounds-out-at-2 t c =
-    omega (arith, ends t (goal.at.bounds-out-at-2 t c).Joined-x-lt100, c.requires.room, c.if-x-lt100.auto.out, length-set c.if-x-lt100.out c.if-x-lt100.at (48 + c.args.x / 10 % 10))
+    omega (arith, ends t (goal.at.bounds-out-at-2 t c).Joined-x-lt100, c.requires.room, c.if-x-lt100.auto.out, length-set c.if-x-lt100.out c.if-x-lt100.at (48 + c.args.x % 100 / 10))
 
 pub overflow_add-result : goal.overflow_add-result
 overflow_add-result t c = omega (arith, ends t (goal.at.overflow_add-result t c).Joined-x-lt100, digits-short c.args.x)
@@ -53,5 +53,5 @@ returns t c =
     let b = before t j in
     let room = ends t j in
     let two : c.if-x-lt100.at + 2 ≡ c.if-x-lt100.at + 1 + 1 = omega arith in
-    let tens : Wrote (b.front ++ ((48 + c.args.x / 10 % 10) ∷ [])) _ _ _ = over-snoc b.front _ _ _ _ b.wrote (omega (arith, room, c.requires.room)) in
+    let tens : Wrote (b.front ++ ((48 + c.args.x % 100 / 10) ∷ [])) _ _ _ = over-snoc b.front _ _ _ _ b.wrote (omega (arith, room, c.requires.room)) in
     rw (b.whole, two) (over-snoc _ _ _ _ _ tens (omega (arith, room, c.requires.room)))
