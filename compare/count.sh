@@ -1,13 +1,8 @@
 #!/usr/bin/env bash
 # Counts instructions, of the library and of the independent version: whole runs, steps on lent words, and the
 # test of well-formedness, on each file of the benchmark. A count is what ten repetitions add, divided by ten.
-# The library is made first, or taken from the folder RYBOSTAN_LIB_DIR.
 set -euo pipefail
-cd "$(dirname "$0")/.."
-RYBOSTAN_LIB_DIR=${RYBOSTAN_LIB_DIR:-$(hosts/library.sh | tail -n 1)}
-RYBOSTAN_LIB_DIR=$(cd "$RYBOSTAN_LIB_DIR" && pwd)
-export RYBOSTAN_LIB_DIR
-cd compare
+source "$(dirname "$0")/library.sh"
 cargo build --offline --quiet --release -p bench
 
 counted() {
