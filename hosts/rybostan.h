@@ -1,8 +1,9 @@
 /* Turn-taking between test benches, for hosts in C and Rust: link librybostan.a.
  *
  * A pointer is never null, also where its length is 0, and points to as many
- * words or bytes as stated; a table and an output are lent to one call at a time.
- * Beyond that each call takes every input, and answers with 0 or a number for no. */
+ * words or bytes as stated; a table and an output are lent to one call at a time,
+ * and no two buffers of a call overlap. Beyond that each call takes every input,
+ * and answers with 0 or a number for no. */
 #ifndef RYBOSTAN_H
 #define RYBOSTAN_H
 
@@ -57,7 +58,8 @@ uint32_t rybostan_enter(uint32_t *table, uint32_t bench);
 uint32_t rybostan_leave(uint32_t *table, uint32_t bench);
 uint32_t rybostan_mark(uint32_t *table, uint32_t bench);
 
-/* 0 and the bytes written; or a refusal from 9 to 12 with its line, and 0 bytes. */
+/* 0 and the bytes written; or a refusal from 9 to 12 with its line, which is 0
+ * for 11 and 12, and 0 bytes. */
 struct rybostan_ran {
     uint32_t answer;
     size_t line;

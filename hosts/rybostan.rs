@@ -4,7 +4,7 @@ pub const WORDS: usize = 2258;
 
 pub type Table = [u32; WORDS];
 
-/// 0 and the bytes written; or a refusal with its line, and 0 bytes.
+/// 0 and the bytes written; or a refusal with its line, which is 0 for 11 and 12, and 0 bytes.
 #[repr(C)]
 #[derive(Clone, Copy, Debug, PartialEq, Eq)]
 pub struct Ran {

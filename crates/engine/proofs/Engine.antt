@@ -1,10 +1,10 @@
 -- The engine follows the rules over every list of steps, and so what is proved of the rules is true of its words.
 use Prim.Native.Nat.{ℕ, ◌≤◌}
-use mathlib.Core.Path.{◌≡◌, refl, sym, ◌∙◌, subst}
+use mathlib.Core.Path.{◌≡◌, refl, sym, ap, ◌∙◌, subst}
 use mathlib.Core.Bool.{true}
 use mathlib.Core.List.{List, [], ◌∷◌}
 use Rattle.lamport.specs.Order.{limit}
-use Rattle.lamport.specs.Table.{sizes_ok, fresh}
+use Rattle.lamport.specs.Table.{Table, sizes_ok, fresh}
 use Rattle.lamport.specs.Refusals.{answers, after}
 use Rattle.lamport.specs.Starred.{Case, case, Holds, starred}
 use Rattle.lamport.proofs.Starred.{starred-hold}
@@ -53,8 +53,15 @@ one_holds n capacity start t u told ks e l m s p q hp hq hold hold' =
 
 answered-by : (cs : List Case) → Holds cs → Answered cs
 answered-by [] h = tt
-answered-by (case n capacity start size ks told clock ∷ cs) h =
-    (λ t u given e m s. (engine_follows n capacity start t u given ks e m s).answered ∙ h.0.1.0, answered-by cs h.1)
+answered-by (case n capacity start size ks told clock ∷ cs) h = (
+  λ r t m. m.answered ∙ h.0.0,
+  (
+    λ t u given e m s.
+        let f = engine_follows n capacity start t u given ks e m s in
+        (f.answered ∙ h.0.1.0, ap (λ (x : Table). x.clock 0) f.read ∙ h.0.1.1),
+    answered-by cs h.1,
+  ),
+)
 
 pub starred-answered : Answered starred
 starred-answered = answered-by starred starred-hold

@@ -54,8 +54,10 @@ holder_told n capacity start ks ok low p hp = (told, λ e. (named_holds s s.benc
   where
     s : Table
     s = after (fresh n capacity start) ks
+
     size : s.benches ≡ n
     size = all_benches (fresh n capacity start) ks
+
     told : s.phase p ≡ holding → holder_cell s ≡ Some p
     told h =
         let some = somebody_named s s.benches p (omega (arith, size)) h in

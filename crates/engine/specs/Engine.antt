@@ -21,11 +21,12 @@ pub record Follows (n capacity start : ℕ) (ks : List Step) (told u : List ℕ)
   pub read : view u ≡ after (fresh n capacity start) ks
   pub formed : well_formed u ≡ true
 
--- each starred case, of the engine
+-- each starred case, of the engine: the answer to its sizes; from a table that is made, the answers to its steps, and bench 0's clock after them
 abbrev pub Answered : List Case → Type 0
 Answered [] = Unit {0}
 Answered (case n capacity start size ks told clock ∷ cs) =
-    ((t u given : List ℕ) → sizes_ok n capacity ≡ true → Made n capacity start 0 t → Taken t ks given u → given ≡ told) × Answered cs
+    ((r : ℕ) (t : List ℕ) → Made n capacity start r t → r ≡ size)
+    × (((t u given : List ℕ) → sizes_ok n capacity ≡ true → Made n capacity start 0 t → Taken t ks given u → (given ≡ told) × ((view u).clock 0 ≡ clock)) × Answered cs)
 
 -- at most one bench holds in the words, whatever steps were taken
 abbrev pub OneHolds : Type 0

@@ -16,6 +16,10 @@ const MANY: usize = 65535;
 const RUN: &[u8] =
     b"table\t2\t4\t0\nask\t0\nask\t1\nenter\t0\ncarry\t0\t1\ncarry\t1\t0\nenter\t0\ncarry\t1\t0\nenter\t0\nenter\t1\nleave\t0\ncarry\t0\t1\ncarry\t0\t1\nenter\t1\nask\t2\nleave\t1\n";
 
+// Three benches, of which two hold in turn and mark a reading each: samples/two_trays.schedule.
+const TRAYS: &[u8] =
+    b"table\t3\t4\t0\nask\t2\nask\t0\ncarry\t0\t1\ncarry\t0\t2\ncarry\t2\t0\ncarry\t2\t1\ncarry\t1\t0\ncarry\t2\t0\nenter\t0\nmark\t0\nmark\t1\nleave\t0\ncarry\t0\t2\ncarry\t1\t2\ncarry\t0\t2\nenter\t2\nmark\t2\nleave\t2\n";
+
 // ---- what is printed
 
 fn mixed(digest: u64, byte: u8) -> u64 {
@@ -196,6 +200,7 @@ fn full(rt: &impl Print) -> io::Result<()> {
 
 fn main(rt: HostRuntime) -> io::Result<()> {
     text(&rt, "the whole run", RUN)?;
+    text(&rt, "two trays", TRAYS)?;
     rooms(&rt)?;
     sizes(&rt)?;
     lines(&rt)?;

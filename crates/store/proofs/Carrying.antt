@@ -12,13 +12,13 @@ use Rattle.lamport.specs.Each.{up_to}
 use Rattle.lamport.specs.Order.{limit, clock_after}
 use Rattle.lamport.specs.Steps.{first}
 use Rattle.lamport.specs.Refusals.{is_request}
-use Rattle.words.specs.Places.{first_slot, clock_at, heard_at, entry_at, kind_at, stamp_at, count_at, chan, clock, count}
+use Rattle.words.specs.Places.{first_kind, clock_at, heard_at, entry_at, kind_at, stamp_at, count_at, chan, clock, count}
 use Rattle.words.specs.View.{view}
 use Rattle.words.proofs.Reading.{view-clock, view-count}
 use Rattle.store.specs.Stores.{moved, popped, received, replied, carried, Carries}
 
 -- taking a message off a channel leaves every word below the slots but that channel's count
-up-moved : (c j i : ℕ) (t : List ℕ) → j < first_slot → get_or (up_to (moved c) i t) j 0 ≡ get_or t j 0
+up-moved : (c j i : ℕ) (t : List ℕ) → j < first_kind → get_or (up_to (moved c) i t) j 0 ≡ get_or t j 0
 unfolding up_to
 up-moved c j zero t l = refl
 up-moved c j (suc i) t l =
@@ -26,7 +26,7 @@ up-moved c j (suc i) t l =
     let b : j ≡ stamp_at c i → ⊥ = omega arith in
     rw (get_or-set_other, get_or-set_other) (up-moved c j i t l)
 
-pub popped-other : (t : List ℕ) (c j : ℕ) → j < first_slot → (j ≡ count_at c → ⊥) → get_or (popped t c) j 0 ≡ get_or t j 0
+pub popped-other : (t : List ℕ) (c j : ℕ) → j < first_kind → (j ≡ count_at c → ⊥) → get_or (popped t c) j 0 ≡ get_or t j 0
 unfolding popped
 popped-other t c j l n =
     let a : j ≡ kind_at c 15 → ⊥ = omega arith in

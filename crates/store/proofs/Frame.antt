@@ -10,9 +10,9 @@ use lib.Seq.{get_or-set_other}
 use Rattle.lamport.specs.declared.Message.{Message}
 use Rattle.lamport.specs.Each.{up_to}
 use Rattle.store.specs.Stores.{Room, pushed, sent_to, acted}
-use Rattle.words.specs.Places.{first_count, first_slot, benches, count_at, chan, count, kind_at, stamp_at}
+use Rattle.words.specs.Places.{first_count, first_kind, benches, count_at, chan, count, kind_at, stamp_at}
 
-pub pushed-other : (t : List ℕ) (c : ℕ) (m : Message) (j : ℕ) → j < first_slot → (j ≡ count_at c → ⊥) → get_or (pushed t c m) j 0 ≡ get_or t j 0
+pub pushed-other : (t : List ℕ) (c : ℕ) (m : Message) (j : ℕ) → j < first_kind → (j ≡ count_at c → ⊥) → get_or (pushed t c m) j 0 ≡ get_or t j 0
 unfolding pushed
 pushed-other t c m j l n =
     let h : j ≡ stamp_at c (count t c) → ⊥ = omega arith in
@@ -23,11 +23,11 @@ sent-get_or : (b : Bool) (t s : List ℕ) (j : ℕ) → get_or s j 0 ≡ get_or 
 sent-get_or true t s j e = refl
 sent-get_or false t s j e = e
 
-pub sent_to-other : (p : ℕ) (m : Message) (q : ℕ) (t : List ℕ) (j : ℕ) → j < first_slot → (j ≡ count_at (chan p q) → ⊥) → get_or (sent_to p m q t) j 0 ≡ get_or t j 0
+pub sent_to-other : (p : ℕ) (m : Message) (q : ℕ) (t : List ℕ) (j : ℕ) → j < first_kind → (j ≡ count_at (chan p q) → ⊥) → get_or (sent_to p m q t) j 0 ≡ get_or t j 0
 unfolding sent_to
 sent_to-other p m q t j l n = sent-get_or (eqb q p) t _ j (pushed-other t (chan p q) m j l n)
 
-pub sent-other : (p : ℕ) (m : Message) (i : ℕ) (t : List ℕ) (j : ℕ) → j < first_slot → ((k : ℕ) → k < i → j ≡ count_at (chan p k) → ⊥) → get_or (up_to (sent_to p m) i t) j 0 ≡ get_or t j 0
+pub sent-other : (p : ℕ) (m : Message) (i : ℕ) (t : List ℕ) (j : ℕ) → j < first_kind → ((k : ℕ) → k < i → j ≡ count_at (chan p k) → ⊥) → get_or (up_to (sent_to p m) i t) j 0 ≡ get_or t j 0
 unfolding up_to
 sent-other p m zero t j l n = refl
 sent-other p m (suc i) t j l n =

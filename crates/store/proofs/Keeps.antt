@@ -9,13 +9,13 @@ use Rattle.lamport.specs.declared.Kind.{Kind}
 use Rattle.lamport.specs.declared.Kind.TheVariants.{Request, Ack, Release}
 use Rattle.lamport.specs.declared.Message.{Message}
 use Rattle.lamport.specs.Codes.{code_of}
-use Rattle.words.specs.Places.{channel_words, first_count, first_slot, clock_at, phase_at, entry_at, heard_at, chan, count_at, kind_at, stamp_at}
+use Rattle.words.specs.Places.{channel_words, first_count, first_kind, clock_at, phase_at, entry_at, heard_at, chan, count_at, kind_at, stamp_at}
 use Rattle.words.proofs.Shut.{word, put, size_of, on, off, len}
 use Rattle.words.proofs.Formed.{Slots, Apart, Wf}
 use Rattle.store.specs.Stores.{pushed, popped}
 use Rattle.store.proofs.Laws.{push_length, push_off, push_count, push_kind, push_stamp, pop_length, pop_off, pop_count, pop_kind, pop_stamp, pop_last_kind, pop_last_stamp}
 
-slots-frame : (t u : List ℕ) (c cap : ℕ) → cap ≤ 16 → word u (count_at c) ≡ word t (count_at c) → ((j : ℕ) → first_slot + c * channel_words ≤ j → j < first_slot + c * channel_words + channel_words → word u j ≡ word t j) → Slots t c cap → Slots u c cap
+slots-frame : (t u : List ℕ) (c cap : ℕ) → cap ≤ 16 → word u (count_at c) ≡ word t (count_at c) → ((j : ℕ) → first_kind + c * channel_words ≤ j → j < first_kind + c * channel_words + channel_words → word u j ≡ word t j) → Slots t c cap → Slots u c cap
 slots-frame t u c cap c16 e f s =
     record {
       few = rw e s.few;
@@ -69,7 +69,7 @@ module _ (n cap : ℕ) (n8 : n ≤ 8) (c16 : cap ≤ 16) (t : List ℕ) (w : Wf 
   small = omega arith
 
   module _ (m : Message) (pos : 1 ≤ m.stamp) (space : word t (count_at (chan a b)) < cap) where
-    pushed-slot : (j : ℕ) → first_slot ≤ j → j ≢ kind_at c k → j ≢ stamp_at c k → word (pushed t c m) j ≡ word t j
+    pushed-slot : (j : ℕ) → first_kind ≤ j → j ≢ kind_at c k → j ≢ stamp_at c k → word (pushed t c m) j ≡ word t j
     unfolding k
     pushed-slot j h x y = push_off t c m j (omega (arith, small)) x y
 
@@ -138,7 +138,7 @@ module _ (n cap : ℕ) (n8 : n ≤ 8) (c16 : cap ≤ 16) (t : List ℕ) (w : Wf 
         (λ x y hx hy f. pop_off t c (count_at (chan x y)) (λ e. not_apart n a b n8 ha hb ne x y hx hy f (omega arith)) (inl (omega arith)))
         (λ x y hx hy. go x y hx hy (ℕ_discrete (chan x y) c))
       where
-        beside : (x y : ℕ) → x < 8 → y < 8 → chan x y ≢ chan a b → (j : ℕ) → first_slot + chan x y * channel_words ≤ j → j < first_slot + chan x y * channel_words + channel_words → Dec (chan x y < chan a b) → word (popped t (chan a b)) j ≡ word t j
+        beside : (x y : ℕ) → x < 8 → y < 8 → chan x y ≢ chan a b → (j : ℕ) → first_kind + chan x y * channel_words ≤ j → j < first_kind + chan x y * channel_words + channel_words → Dec (chan x y < chan a b) → word (popped t (chan a b)) j ≡ word t j
         beside x y hx hy d j l h (yes s) = pop_off t c j (omega arith) (inl (omega arith))
         beside x y hx hy d j l h (no s) = pop_off t c j (omega arith) (inr (omega arith))
 

@@ -12,7 +12,7 @@ use Rattle.lamport.specs.declared.Message.{Message}
 use Rattle.lamport.specs.Each.{up_to}
 use Rattle.lamport.specs.Steps.{rest}
 use Rattle.lamport.specs.Codes.{code_of}
-use Rattle.words.specs.Places.{channel_words, first_slot, size, count_at, kind_at, stamp_at, count, kind_of}
+use Rattle.words.specs.Places.{channel_words, first_kind, size, count_at, kind_at, stamp_at, count, kind_of}
 use Rattle.words.specs.View.{listed, slot, channel}
 use Rattle.words.proofs.Shut.{word, put, size_of, on, off, len}
 use Rattle.words.proofs.Listed.{listed_same, listed_cons}
@@ -80,7 +80,7 @@ module _ (c : ℕ) where
   up-length zero t = refl
   up-length (suc k) t = rw (moved_as k (up_to (moved c) k t)) (len _ _ _ ∙ len _ _ _ ∙ up-length k t)
 
-  up-off : (k : ℕ) (t : List ℕ) (j : ℕ) → (j < first_slot + c * channel_words) ⊎ (first_slot + c * channel_words + k * 2 ≤ j) → word (up_to (moved c) k t) j ≡ word t j
+  up-off : (k : ℕ) (t : List ℕ) (j : ℕ) → (j < first_kind + c * channel_words) ⊎ (first_kind + c * channel_words + k * 2 ≤ j) → word (up_to (moved c) k t) j ≡ word t j
   unfolding up_to
   up-off zero t j h = refl
   up-off (suc k) t j (inl h) = rw (moved_as k (up_to (moved c) k t)) (off _ _ _ j (omega arith) ∙ off _ _ _ j (omega arith) ∙ up-off k t j (inl h))
@@ -121,7 +121,7 @@ module _ (t : List ℕ) (c : ℕ) where
   pub pop_length : size_of (popped t c) ≡ size_of t
   pop_length = rw popped-as (len _ _ _ ∙ len _ _ _ ∙ len _ _ _ ∙ up-length c 15 t)
 
-  pub pop_off : (j : ℕ) → j ≢ count_at c → (j < first_slot + c * channel_words) ⊎ (first_slot + c * channel_words + channel_words ≤ j) → word (popped t c) j ≡ word t j
+  pub pop_off : (j : ℕ) → j ≢ count_at c → (j < first_kind + c * channel_words) ⊎ (first_kind + c * channel_words + channel_words ≤ j) → word (popped t c) j ≡ word t j
   pop_off j ne (inl h) = rw popped-as (off _ _ _ j ne ∙ off _ _ _ j (omega arith) ∙ off _ _ _ j (omega arith) ∙ up-off c 15 t j (inl h))
   pop_off j ne (inr h) = rw popped-as (off _ _ _ j ne ∙ off _ _ _ j (omega arith) ∙ off _ _ _ j (omega arith) ∙ up-off c 15 t j (inr (omega arith)))
 

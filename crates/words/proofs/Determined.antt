@@ -10,7 +10,7 @@ use lib.Seq.{ext_get_or}
 use Rattle.lamport.specs.declared.Message.{Message}
 use Rattle.lamport.specs.Table.{Table}
 use Rattle.lamport.specs.Codes.{code_of}
-use Rattle.words.specs.Places.{slot_words, channel_words, first_clock, first_phase, first_entry, first_heard, first_count, first_slot, size, clock_at, phase_at, chan, count_at, kind_at, stamp_at, capacity, clock, phase, entry, heard, count, kind_of}
+use Rattle.words.specs.Places.{slot_words, channel_words, first_clock, first_phase, first_entry, first_heard, first_count, first_kind, size, clock_at, phase_at, chan, count_at, kind_at, stamp_at, capacity, clock, phase, entry, heard, count, kind_of}
 use Rattle.words.specs.View.{slot, channel, view}
 use Rattle.words.specs.WellFormed.{well_formed}
 use Rattle.words.proofs.Listed.{nth, listed_nth}
@@ -109,19 +109,19 @@ module _ (t u : List ℕ) (v : well_formed t ≡ true) (w : well_formed u ≡ tr
   paired : (base : ℕ) → ((a b : ℕ) → a < 8 → b < 8 → Same (base + a * 8 + b)) → (j : ℕ) → base ≤ j → j < base + 64 → Same j
   paired base h j lo hi = let p = pair_of (j - base) (omega arith) in at (base + p.a * 8 + p.b) j (omega (arith, p.is)) (h p.a p.b p.left p.right)
 
-  slotted : (j : ℕ) → first_slot ≤ j → j < size → Same j
+  slotted : (j : ℕ) → first_kind ≤ j → j < size → Same j
   unfolding Same
-  slotted j lo hi = go (pair_of ((j - first_slot) / channel_words) (omega arith)) (dec_lt ((j - first_slot) % slot_words) 1)
+  slotted j lo hi = go (pair_of ((j - first_kind) / channel_words) (omega arith)) (dec_lt ((j - first_kind) % slot_words) 1)
     where
-      go : Pair ((j - first_slot) / channel_words) → Dec ((j - first_slot) % slot_words < 1) → Same j
-      go p (yes even) = at (kind_at (chan p.a p.b) ((j - first_slot) % channel_words / slot_words)) j (omega (arith, p.is)) (same_kind p.a p.b p.left p.right ((j - first_slot) % channel_words / slot_words) (omega arith))
-      go p (no odd) = at (stamp_at (chan p.a p.b) ((j - first_slot) % channel_words / slot_words)) j (omega (arith, p.is)) (same-stamp p.a p.b p.left p.right ((j - first_slot) % channel_words / slot_words) (omega arith))
+      go : Pair ((j - first_kind) / channel_words) → Dec ((j - first_kind) % slot_words < 1) → Same j
+      go p (yes even) = at (kind_at (chan p.a p.b) ((j - first_kind) % channel_words / slot_words)) j (omega (arith, p.is)) (same_kind p.a p.b p.left p.right ((j - first_kind) % channel_words / slot_words) (omega arith))
+      go p (no odd) = at (stamp_at (chan p.a p.b) ((j - first_kind) % channel_words / slot_words)) j (omega (arith, p.is)) (same-stamp p.a p.b p.left p.right ((j - first_kind) % channel_words / slot_words) (omega arith))
 
   all_same : (j : ℕ) → j < size → Same j
   unfolding Same
-  all_same j h = go (dec_lt j 1) (dec_lt j first_clock) (dec_lt j first_phase) (dec_lt j first_entry) (dec_lt j first_heard) (dec_lt j first_count) (dec_lt j first_slot)
+  all_same j h = go (dec_lt j 1) (dec_lt j first_clock) (dec_lt j first_phase) (dec_lt j first_entry) (dec_lt j first_heard) (dec_lt j first_count) (dec_lt j first_kind)
     where
-      go : Dec (j < 1) → Dec (j < first_clock) → Dec (j < first_phase) → Dec (j < first_entry) → Dec (j < first_heard) → Dec (j < first_count) → Dec (j < first_slot) → Same j
+      go : Dec (j < 1) → Dec (j < first_clock) → Dec (j < first_phase) → Dec (j < first_entry) → Dec (j < first_heard) → Dec (j < first_count) → Dec (j < first_kind) → Same j
       go (yes a) b c d x y z = at 0 j (omega arith) same-benches
       go (no a) (yes b) c d x y z = at 1 j (omega arith) same-capacity
       go (no a) (no b) (yes c) d x y z = at (clock_at (j - first_clock)) j (omega arith) (same-clock (j - first_clock) (omega arith))

@@ -19,7 +19,13 @@ slot_words = 2
 abbrev pub channel_words : ℕ
 channel_words = 32
 
--- ---- where each block begins: a word for each bench, for each pair of benches, for each channel, and the channels' slots
+-- ---- where each block begins: the sizes, a word for each bench, for each pair of benches, for each channel, and the channels' slots
+
+abbrev pub benches_at : ℕ
+benches_at = 0
+
+abbrev pub capacity_at : ℕ
+capacity_at = 1
 
 abbrev pub first_clock : ℕ
 first_clock = 2
@@ -36,8 +42,11 @@ first_heard = 82
 abbrev pub first_count : ℕ
 first_count = 146
 
-abbrev pub first_slot : ℕ
-first_slot = 210
+abbrev pub first_kind : ℕ
+first_kind = 210
+
+abbrev pub first_stamp : ℕ
+first_stamp = 211
 
 abbrev pub size : ℕ
 size = 2258
@@ -65,18 +74,18 @@ count_at c = first_count + c
 
 -- slot i of channel c: the kind, and behind it the stamp
 abbrev pub kind_at : ℕ → ℕ → ℕ
-kind_at c i = first_slot + c * channel_words + i * slot_words
+kind_at c i = first_kind + c * channel_words + i * slot_words
 
 abbrev pub stamp_at : ℕ → ℕ → ℕ
-stamp_at c i = first_slot + 1 + c * channel_words + i * slot_words
+stamp_at c i = first_stamp + c * channel_words + i * slot_words
 
 -- ---- what stands there
 
 abbrev pub benches : List ℕ → ℕ
-benches t = get_or t 0 0
+benches t = get_or t benches_at 0
 
 abbrev pub capacity : List ℕ → ℕ
-capacity t = get_or t 1 0
+capacity t = get_or t capacity_at 0
 
 abbrev pub clock : List ℕ → ℕ → ℕ
 clock t p = get_or t (clock_at p) 0

@@ -1,6 +1,6 @@
 use Rattle.std.proofs.Common.{◌≡◌, ◌+◌, ◌*◌, sym, ap, ◌∙◌, arith}
 use Rattle.lamport.proofs.Each.{up_none, up_more, up-end}
-use Rattle.words.specs.Places.{first_slot, channel_words, kind_at, stamp_at}
+use Rattle.words.specs.Places.{first_kind, channel_words, kind_at, stamp_at}
 use Rattle.store.specs.Stores.{moved, popped}
 use Rattle.store.proofs.pop.Goals as goal
 
@@ -14,6 +14,6 @@ pub returns : goal.returns
 unfolding popped
 returns c =
     let n = c.args.c.number in
-    let kind : first_slot + (n * channel_words + 30) ≡ kind_at n 15 = omega arith in
-    let stamp : first_slot + 1 + (n * channel_words + 30) ≡ stamp_at n 15 = omega arith in
+    let kind : first_kind + (n * channel_words + 30) ≡ kind_at n 15 = omega arith in
+    let stamp : first_kind + 1 + (n * channel_words + 30) ≡ stamp_at n 15 = omega arith in
     rw (kind, stamp, up-end _ c.loop-i.i 15 _ _ (omega arith) c.loop-i.invariant)
