@@ -1,103 +1,264 @@
-# An independent model of the rules, from which crates/run_cases/stdout was made: python3 tools/model.py crates/run_cases/src/main.rt
-LIM=4294967295
-class T:
-    def __init__(s,n,c,start):
-        s.n=n;s.c=c;s.clk=[start]*n;s.ph=[0]*n;s.q=[[0]*n for _ in range(n)];s.h=[[0]*n for _ in range(n)];s.ch={(a,b):[] for a in range(n) for b in range(n) if a!=b}
-def bef(t,p,u,q): return t<u or (t==u and p<q)
-def step(s,x):
-    k=x[0]; ps=x[1:]
-    if any(p>=s.n for p in ps): return 2
-    if k=='carry' and ps[0]==ps[1]: return 3
-    a=ps[1] if k=='carry' else ps[0]
-    if k=='ask' and s.ph[a]!=0 or k=='enter' and s.ph[a]!=1 or k=='leave' and s.ph[a]!=2: return 4
-    if k=='carry' and not s.ch[(ps[0],ps[1])]: return 5
-    others=[b for b in range(s.n) if b!=a]
-    if k=='enter':
-        own=s.q[a][a]
-        ok=all(s.q[a][b]==0 or bef(own,a,s.q[a][b],b) for b in others) and all(s.h[a][b]>own for b in others)
-        if not ok: return 6
-    if k in('ask','leave') and any(len(s.ch[(a,b)])>=s.c for b in others): return 7
-    if k=='carry':
-        p,q=ps; kind,t=s.ch[(p,q)][0]
-        if kind=='R' and len(s.ch[(q,p)])>=s.c: return 7
-        c=max(s.clk[q],t)+1
-        if kind=='R': c+=1
-    else: c=s.clk[a]+1
-    if c>LIM: return 8
-    s.clk[a]=c
-    if k=='ask':
-        s.q[a][a]=c;s.ph[a]=1
-        for b in others:s.ch[(a,b)].append(('R',c))
-    if k=='leave':
-        s.q[a][a]=0;s.ph[a]=0
-        for b in others:s.ch[(a,b)].append(('L',c))
-    if k=='enter': s.ph[a]=2
-    if k=='carry':
-        s.ch[(p,q)].pop(0); s.h[q][p]=max(s.h[q][p],t)
-        if kind=='R': s.q[q][p]=t; s.ch[(q,p)].append(('A',c))
-        if kind=='L': s.q[q][p]=0
+"""An independent model of the rules in document 01, the exact rules.
+
+It prints what the case program crates/run_cases/src/main.rt has to print, and so
+makes that program's stored output:
+
+    python3 tools/model.py crates/run_cases/src/main.rt > crates/run_cases/stdout
+
+It is written from the rules and not from the Rattle code. Of the case program it
+takes the cases (names, schedules, budgets, rooms) and the form they are printed in.
+"""
+import ast
+import re
+import sys
+from collections import namedtuple
+
+LIMIT = 4294967295  # of a clock, and of a number in a schedule
+LONGEST = 12288  # bytes of a schedule
+IDLE, WAITING, HOLDING = 0, 1, 2
+
+Message = namedtuple('Message', 'kind stamp')
+Line = namedtuple('Line', 'word numbers')  # A step is a line whose numbers are benches.
+
+class Table:
+    """At first fresh: all clocks at the start, all benches idle, everything else empty."""
+
+    def __init__(self, n, capacity, start):
+        self.n, self.capacity = n, capacity
+        self.clock = [start] * n
+        self.phase = [IDLE] * n
+        # queue[p][q] is q's entry in p's queue; heard[p][q] is what p has heard from q.
+        self.queue = [[0] * n for _ in range(n)]
+        self.heard = [[0] * n for _ in range(n)]
+        # channel[p, q] leads from p to q, its oldest message first.
+        self.channel = {(p, q): [] for p in range(n) for q in range(n) if p != q}
+
+    def others(self, p):
+        return [q for q in range(self.n) if q != p]
+
+def comes_before(stamp, bench, other_stamp, other_bench):
+    return stamp < other_stamp or stamp == other_stamp and bench < other_bench
+
+def place(table, p):
+    if table.phase[p] != WAITING:
+        return '-'
+    queue = table.queue[p]
+    entries = [q for q in table.others(p) if queue[q] != 0]
+    return 1 + sum(comes_before(queue[q], q, queue[p], p) for q in entries)
+
+def holder(table):
+    return next((p for p in range(table.n) if table.phase[p] == HOLDING), '-')
+
+# ---- the numbers for no
+ANY = [IDLE, WAITING, HOLDING]
+ADMITTING = {'ask': [IDLE], 'enter': [WAITING], 'leave': [HOLDING], 'mark': ANY, 'carry': ANY}
+
+def bench_of(step):
+    """The bench whose clock advances: for carry the receiver."""
+    return step.numbers[-1]
+
+def carried(table, step):
+    """The oldest message on a carry's channel, or None."""
+    return next(iter(table.channel[tuple(step.numbers)]), None)
+
+def may_enter(table, p):
+    queue = table.queue[p]
+    entries = [q for q in table.others(p) if queue[q] != 0]
+    first = all(comes_before(queue[p], p, queue[q], q) for q in entries)
+    return first and all(table.heard[p][q] > queue[p] for q in table.others(p))
+
+def channels_sent_on(table, step):
+    if step.word in ('ask', 'leave'):
+        p = bench_of(step)
+        return [(p, q) for q in table.others(p)]
+    if step.word == 'carry' and carried(table, step).kind == 'request':
+        p, q = step.numbers
+        return [(q, p)]
+    return []
+
+def clock_after(table, step):
+    clock = table.clock[bench_of(step)]
+    if step.word != 'carry':
+        return clock + 1
+    message = carried(table, step)
+    received = max(clock, message.stamp) + 1
+    # Sending the acknowledgement is an event of its own.
+    return received + 1 if message.kind == 'request' else received
+
+def answer_to(table, step):
+    """The first number that applies, else 0. It is never 1: a run's table is well formed."""
+    if any(bench >= table.n for bench in step.numbers):
+        return 2
+    if step.word == 'carry' and step.numbers[0] == step.numbers[1]:
+        return 3
+    if table.phase[bench_of(step)] not in ADMITTING[step.word]:
+        return 4
+    if step.word == 'carry' and carried(table, step) is None:
+        return 5
+    if step.word == 'enter' and not may_enter(table, bench_of(step)):
+        return 6
+    if any(len(table.channel[c]) >= table.capacity for c in channels_sent_on(table, step)):
+        return 7
+    if clock_after(table, step) > LIMIT:
+        return 8
     return 0
-def num(f):
-    if not f or any(ch not in b'0123456789' for ch in f): return None
-    if len(f)>1 and f[0:1]==b'0': return None
-    v=int(f); return v if v<=LIM else None
-def parse(l):
-    fs=l.split(b'\t'); w=fs[0]; ns=[num(f) for f in fs[1:]]
-    if any(n is None for n in ns): return None
-    if w==b'table' and len(ns)==3: return ('table',*ns)
-    if w in(b'ask',b'enter',b'leave',b'mark') and len(ns)==1: return (w.decode(),ns[0])
-    if w==b'carry' and len(ns)==2: return ('carry',*ns)
-    return None
-def run(s,budget,room):
-    if len(s)>12288: return 12,0,b''
-    parts=s.split(b'\n')
-    if len(parts)==1: return 10,1,b''
-    h=parse(parts[0])
-    if not h or h[0]!='table': return 10,1,b''
-    if not(1<=h[1]<=8 and 1<=h[2]<=16): return 9,1,b''
-    steps=[]
-    for i,l in enumerate(parts[1:-1]):
-        x=parse(l)
-        if not x or x[0]=='table': return 10,i+2,b''
-        steps.append(x)
-    if parts[-1]!=b'': return 10,len(parts),b''
-    if room<32*s.count(b'\n'): return 11,0,b''
-    t=T(*h[1:]); out=[];ref=0
-    for k,x in enumerate(steps[:budget]):
-        a=step(t,x); ref+=a!=0
-        hold=[b for b in range(t.n) if t.ph[b]==2]; ho=str(hold[0]) if hold else '-'
-        if a==2: out.append('\t'.join([str(k+1),'2','-','-','-','-',ho]))
+
+# ---- the five steps, each given the clock after it
+
+def send_to_others(table, p, message):
+    for q in table.others(p):
+        table.channel[p, q].append(message)
+
+def ask(table, clock, p):
+    table.queue[p][p] = clock
+    table.phase[p] = WAITING
+    send_to_others(table, p, Message('request', clock))
+
+def carry(table, clock, p, q):
+    message = table.channel[p, q].pop(0)
+    table.heard[q][p] = max(table.heard[q][p], message.stamp)
+    if message.kind == 'request':
+        table.queue[q][p] = message.stamp
+        table.channel[q, p].append(Message('acknowledgement', clock))
+    elif message.kind == 'release':
+        table.queue[q][p] = 0
+
+def enter(table, clock, p):
+    table.phase[p] = HOLDING
+
+def leave(table, clock, p):
+    table.queue[p][p] = 0
+    table.phase[p] = IDLE
+    send_to_others(table, p, Message('release', clock))
+
+def mark(table, clock, p):
+    pass  # Only the clock advances.
+
+STEPS = {'ask': ask, 'carry': carry, 'enter': enter, 'leave': leave, 'mark': mark}
+
+def take(table, step):
+    """Changes the table unless the step is refused, and returns the answer."""
+    answer = answer_to(table, step)
+    if answer == 0:
+        clock = clock_after(table, step)
+        table.clock[bench_of(step)] = clock
+        STEPS[step.word](table, clock, *step.numbers)
+    return answer
+
+# ---- the schedule
+NUMBERS = {'table': 3, 'ask': 1, 'enter': 1, 'leave': 1, 'mark': 1, 'carry': 2}
+
+class Refused(Exception):
+    """Of a run: the number and the line."""
+
+def is_number(field):
+    return re.fullmatch(rb'0|[1-9][0-9]{0,9}', field) is not None and int(field) <= LIMIT
+
+def read_line(text):
+    """The line, or None if it is bad."""
+    first, *fields = text.split(b'\t')
+    word = first.decode('latin-1')
+    if NUMBERS.get(word) != len(fields) or not all(map(is_number, fields)):
+        return None
+    return Line(word, [int(field) for field in fields])
+
+def read_schedule(schedule):
+    """The header and the steps."""
+    if len(schedule) > LONGEST:
+        raise Refused(12, 0)
+    # What follows the last LF is nothing, or else a line that lacks its LF.
+    *texts, unended = schedule.split(b'\n')
+    lines = []
+    for at, text in enumerate(texts, 1):
+        line = read_line(text)
+        # The header is the first line and no other.
+        if line is None or (line.word == 'table') != (at == 1):
+            raise Refused(10, at)
+        if at == 1 and not (1 <= line.numbers[0] <= 8 and 1 <= line.numbers[1] <= 16):
+            raise Refused(9, at)
+        lines.append(line)
+    if unended or not lines:
+        raise Refused(10, len(lines) + 1)
+    return lines[0], lines[1:]
+
+# ---- the run and its listing
+
+def record(table, at, step, answer):
+    if answer == 2:
+        return [at, answer, '-', '-', '-', '-', holder(table)]
+    p = bench_of(step)
+    return [at, answer, p, table.clock[p], table.phase[p], place(table, p), holder(table)]
+
+def run(schedule, budget, room):
+    """The listing."""
+    header, steps = read_schedule(schedule)
+    if room < 32 * (1 + len(steps)):
+        raise Refused(11, 0)
+    table = Table(*header.numbers)
+    records, refused = [], 0
+    for at, step in enumerate(steps[:budget], 1):
+        answer = take(table, step)
+        if answer != 0:
+            refused += 1
+        records.append(record(table, at, step, answer))
+    records.append(['end', len(records), refused])
+    return ''.join('\t'.join(map(str, fields)) + '\n' for fields in records)
+
+# ---- the cases, read out of the case program
+LONG = b'table\t2\t4\t0\n' + b'ask\t0\n' * LONGEST  # `long` cuts it to a length.
+STRING = r'b?"(?:[^"\\]|\\.)*"'
+ARGUMENT = rf'{STRING}|\w+(?: \+ \w+)?'
+CALL = rf'(\w+)\(\s*&?rt((?:,\s*(?:{ARGUMENT}))*),?\s*\)'
+CONSTANT = rf'const (\w+): (?:&\[u8\]|usize) =\s*({STRING}|\d+);'
+
+def value_of(argument, constants):
+    """Of a literal, a constant, or a sum of two numbers."""
+    if '"' in argument:
+        return ast.literal_eval(argument)
+    terms = [constants[t] if t in constants else int(t) for t in argument.split(' + ')]
+    return sum(terms) if len(terms) > 1 else terms[0]
+
+def calls_of(function, source, constants):
+    """The calls in the function's body, each with its arguments behind rt."""
+    body = re.search(rf'^fn {function}\(rt: .*?\{{\n(.*?)^\}}', source, re.S | re.M).group(1)
+    found = re.findall(CALL, body)
+    if len(found) != len(re.findall(r'\brt\b', body)):
+        sys.exit(f'{function}: a call of a form that is not read here')
+    return [(called, [value_of(a, constants) for a in re.findall(ARGUMENT, arguments)])
+            for called, arguments in found]
+
+def cases_of(function, source, constants):
+    """Name, schedule, budget and room of each case, in order."""
+    for called, arguments in calls_of(function, source, constants):
+        if called == 'case':
+            yield arguments
+        elif called == 'text':
+            yield [*arguments, constants['MANY'], constants['ROOM']]
+        elif called == 'long':
+            name, length = arguments
+            yield [name, LONG[:length], constants['MANY'], constants['ROOM']]
         else:
-            b=x[2] if x[0]=='carry' else x[1]
-            pl=str(1+sum(1 for q in range(t.n) if t.q[b][q] and bef(t.q[b][q],q,t.q[b][b],b))) if t.ph[b]==1 else '-'
-            out.append('\t'.join(map(str,[k+1,a,b,t.clk[b],t.ph[b],pl,ho])))
-    out.append('end\t%d\t%d'%(min(budget,len(steps)),ref))
-    return 0,0,('\n'.join(out)+'\n').encode()
-def dig(b):
-    d=7
-    for x in b: d=(d%4294967291*31+x)%4294967291
-    return d
-import sys,re,ast
-src=open(sys.argv[1]).read()
-RUN=ast.literal_eval(re.search(r'const RUN: &\[u8\] =\s*(b".*?");',src,re.S).group(1))
-w=sys.stdout.buffer.write
-def case(name,s,budget=65535,room=65568):
-    no,line,t=run(s,budget,room)
-    w(f'{name}: {no} line {line} bytes {len(t)} rest as before\n'.encode())
-    if len(t)<=600: w(t)
-    else: w(f'digest {dig(t)}\n'.encode())
-def body(fn): 
-    m=re.search(r'fn '+fn+r'\(rt: .*?\n\}\n',src,re.S).group(0)
-    return m
-def lit(x): return RUN if x=='RUN' else ast.literal_eval(x)
-def do(fn):
-    b=re.sub(r'\s+',' ',body(fn))
-    for m in re.finditer(r'(case|text)\(\s*&?rt, ("(?:[^"\\]|\\.)*"), (b"(?:[^"\\]|\\.)*"|RUN)(?:, (\w+), (\w+))?,? ?\)',b):
-        k,name,s,bu,ro=m.groups()
-        v=lambda z:{'MANY':65535,'ROOM':65568}.get(z) if z in('MANY','ROOM') else int(z)
-        case(ast.literal_eval(name),lit(s),*( [v(bu),v(ro)] if bu else []))
-case('the whole run',RUN)
-for f in ['rooms','sizes','lines','fields']: do(f)
-base=b'table\t2\t4\t0\n'+b'ask\t0\n'*2047
-case('12288 bytes',base[:12288]); case('12289 bytes',base[:12289])
-do('full')
+            yield from cases_of(called, source, constants)
+
+def digest(listing):
+    value = 7
+    for byte in listing.encode():
+        value = (value % 4294967291 * 31 + byte) % 4294967291
+    return value
+
+def print_case(name, schedule, budget, room):
+    number, line, listing = 0, 0, ''
+    try:
+        listing = run(schedule, budget, room)
+    except Refused as refused:
+        number, line = refused.args
+    # By the rules the bytes after a listing stay, and all of them where a run is refused.
+    print(f'{name}: {number} line {line} bytes {len(listing)} rest as before')
+    print(listing if len(listing) <= 600 else f'digest {digest(listing)}\n', end='')
+
+if __name__ == '__main__':
+    with open(sys.argv[1], encoding='utf-8') as file:
+        program = file.read()
+    named = {name: ast.literal_eval(value) for name, value in re.findall(CONSTANT, program)}
+    for case in cases_of('main', program, named):
+        print_case(*case)

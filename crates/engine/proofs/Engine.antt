@@ -1,21 +1,19 @@
 -- The engine follows the rules over every list of steps, and so what is proved of the rules is true of its words.
-use Prim.Native.Nat.{ℕ, ◌≤◌}
+use Prim.Native.Nat.{ℕ}
 use mathlib.Core.Path.{◌≡◌, refl, sym, ap, ◌∙◌, subst}
 use mathlib.Core.Bool.{true}
 use mathlib.Core.List.{List, [], ◌∷◌}
-use Rattle.lamport.specs.Order.{limit}
-use Rattle.lamport.specs.Table.{Table, sizes_ok, fresh}
+use Rattle.lamport.specs.Table.{Table, fresh}
 use Rattle.lamport.specs.Refusals.{answers, after}
 use Rattle.lamport.specs.Starred.{Case, case, Holds, starred}
 use Rattle.lamport.proofs.Starred.{starred-hold}
 use Rattle.lamport.specs.declared.Step.{Step}
 use Rattle.words.specs.View.{view}
 use Rattle.words.specs.WellFormed.{well_formed}
-use Rattle.table.specs.Post.{Made}
 use Rattle.table.proofs.Determined.{answered, follows, keeps}
 use Rattle.exclusion.specs.Demand.{Demand3}
 use Rattle.exclusion.proofs.Theorems.{demand3}
-use Rattle.engine.specs.Engine.{Taken, none, more, Follows, Answered, OneHolds}
+use Rattle.engine.specs.Engine.{Taken, none, more, StepsFollow, EngineDemanded, Answered, OneHolds}
 
 -- ---- from words that are well formed
 
@@ -34,7 +32,7 @@ steps_formed w (more {t} {u} {v} {k} {ks} {r} {told} m ms) = steps_formed (keeps
 
 -- ---- from a fresh table
 
-pub engine_follows : (n capacity start : ℕ) (t u told : List ℕ) (ks : List Step) → sizes_ok n capacity ≡ true → Made n capacity start 0 t → Taken t ks told u → Follows n capacity start ks told u
+pub engine_follows : StepsFollow
 engine_follows n capacity start t u told ks e m s =
     record {
       answered = rw (m.done e) at (steps_told (m.formed e) s);
@@ -42,8 +40,7 @@ engine_follows n capacity start t u told ks e m s =
       formed = steps_formed (m.formed e) s;
     }
 
--- Demand3, of what is read in the words that `fresh` makes
-pub engine_demand3 : (n capacity start : ℕ) (t : List ℕ) → sizes_ok n capacity ≡ true → start ≤ limit → Made n capacity start 0 t → Demand3 (view t)
+pub engine_demand3 : EngineDemanded
 engine_demand3 n capacity start t e l m = subst Demand3 (sym (m.done e)) (demand3 n capacity start e l)
 
 pub one_holds : OneHolds

@@ -50,7 +50,7 @@ all_benches s [] = refl
 all_benches s (k ∷ ks) = all_benches (next s k) ks ∙ next-benches s k
 
 pub holder_told : HolderTold
-holder_told n capacity start ks ok low p hp = (told, λ e. (named_holds s s.benches p e).1)
+holder_told n capacity start ks ok low p = (told, named)
   where
     s : Table
     s = after (fresh n capacity start) ks
@@ -58,8 +58,11 @@ holder_told n capacity start ks ok low p hp = (told, λ e. (named_holds s s.benc
     size : s.benches ≡ n
     size = all_benches (fresh n capacity start) ks
 
-    told : s.phase p ≡ holding → holder_cell s ≡ Some p
+    named : holder_cell s ≡ Some p → (p < n) × (s.phase p ≡ holding)
+    named e = let h = named_holds s s.benches p e in (omega (arith, size, h.0), h.1)
+
+    told : (p < n) × (s.phase p ≡ holding) → holder_cell s ≡ Some p
     told h =
-        let some = somebody_named s s.benches p (omega (arith, size)) h in
-        let named = named_holds s s.benches some.0 some.1 in
-        some.1 ∙ ap Some ((demand3 n capacity start ok low).exclusion ks some.0 p (omega (arith, size, named.0)) hp named.1 h)
+        let some = somebody_named s s.benches p (omega (arith, size, h.0)) h.1 in
+        let other = named_holds s s.benches some.0 some.1 in
+        some.1 ∙ ap Some ((demand3 n capacity start ok low).exclusion ks some.0 p (omega (arith, size, other.0)) h.0 other.1 h.1)

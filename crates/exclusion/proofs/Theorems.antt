@@ -11,10 +11,10 @@ use borrow.Author.Tests.{lt-ltb, leb-true, eq-eqb}
 use Rattle.lamport.specs.declared.Step.{Step}
 use Rattle.lamport.specs.declared.Step.TheVariants.{Ask}
 use Rattle.lamport.specs.Order.{limit}
-use Rattle.lamport.specs.Table.{Table, sizes_ok, within, fresh}
+use Rattle.lamport.specs.Table.{Table, within, fresh}
 use Rattle.lamport.specs.Refusals.{answer, next, after}
 use Rattle.lamport.proofs.Each.{and_left, and_right}
-use Rattle.exclusion.specs.Demand.{Grant, Earlier, granted, grants, count, Each, Rising, request_sent, request_taken, counted, sent, taken, Reached, Waits, Carried, LastCopy, most, Demand3}
+use Rattle.exclusion.specs.Demand.{Grant, Earlier, granted, grants, count, Each, Rising, request_sent, request_taken, counted, sent, taken, Reached, Waits, Carried, LastCopy, overtakings, Demand3, Demanded}
 use Rattle.exclusion.proofs.Streams.{requests_in}
 use Rattle.exclusion.proofs.Effects.{Two}
 use Rattle.exclusion.proofs.Invariant.{Inv}
@@ -118,13 +118,13 @@ module _ (n : ℕ) (n8 : n ≤ 8) where
         let m = move_past n n8 s (next s k) p t hp st.queued nz st.inv q hq np (step s k st.inv) ps in
         omega (arith, count-append q (granted s k) (grants (next s k) ks), m.0, never q hq np (next s k) ks (still s k ks st z) (tail s k ks z) m.1)
 
-    once : (q : ℕ) → q < n → q ≢ p → (s : Table) (ks : List Step) → Still s → count p (grants s ks) ≡ 0 → count q (grants s ks) ≤ most
+    once : (q : ℕ) → q < n → q ≢ p → (s : Table) (ks : List Step) → Still s → count p (grants s ks) ≡ 0 → count q (grants s ks) ≤ overtakings
     once q hq np s [] st z = omega arith
     once q hq np s (k ∷ ks) st z =
         go (move_once n n8 s (next s k) p t hp st.queued nz st.inv q hq np (step s k st.inv))
         (once q hq np (next s k) ks (still s k ks st z) (tail s k ks z))
       where
-        go : (count q (granted s k) ≡ 0) ⊎ ((count q (granted s k) ≡ 1) × Past (next s k) q t) → count q (grants (next s k) ks) ≤ most → count q (grants s (k ∷ ks)) ≤ most
+        go : (count q (granted s k) ≡ 0) ⊎ ((count q (granted s k) ≡ 1) × Past (next s k) q t) → count q (grants (next s k) ks) ≤ overtakings → count q (grants s (k ∷ ks)) ≤ overtakings
         go (inl e) r = omega (arith, e, r, count-append q (granted s k) (grants (next s k) ks))
         go (inr e) r = omega (arith, e.0, never q hq np (next s k) ks (still s k ks st z) (tail s k ks z) e.1, count-append q (granted s k) (grants (next s k) ks))
 
@@ -164,7 +164,7 @@ module _ (n capacity start : ℕ) (n8 : n ≤ 8) (low : start ≤ limit) where
     arrived ca q t = omega (arith, after-copies n n8 s₀ ks p q t fresh-inv, ca.reached q t.right (λ e. t.apart (sym e)))
 
     overtaken : Carried s₀ ks p T → (ls : List Step) → count p (grants (after s₀ ks) ls) ≡ 0
-        → ((q : ℕ) → q < n → q ≢ p → count q (grants (after s₀ ks) ls) ≤ most)
+        → ((q : ℕ) → q < n → q ≢ p → count q (grants (after s₀ ks) ls) ≤ overtakings)
         × Each (λ g. Earlier g (record { stamp = T; bench = p })) (grants (after s₀ ks) ls)
     overtaken ca ls z = (λ q hq ne. once n n8 p T hp nz q hq ne (after s₀ ks) ls st z, all_before n n8 p T hp nz (after s₀ ks) ls st z)
       where
@@ -247,5 +247,5 @@ module _ (n capacity start : ℕ) (n8 : n ≤ 8) (low : start ≤ limit) where
       }
 
 -- Demand3, of every table that is fresh
-pub demand3 : (n capacity start : ℕ) → sizes_ok n capacity ≡ true → start ≤ limit → Demand3 (fresh n capacity start)
+pub demand3 : Demanded
 demand3 n capacity start ok low = demanded n capacity start (leb-true n 8 (and_right (leb 1 n) (leb n 8) (and_left (within 1 n 8) _ ok))) low

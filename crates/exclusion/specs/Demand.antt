@@ -2,7 +2,7 @@
 -- `after s₀ ks` is the table after the steps ks, `answer` a step's answer (0: done), `next` the table after one step.
 use Rattle.std.specs.Prelude.{◌≡◌, ◌≢◌, ◌↔◌, Bool, true, false, cond, ◌&&◌, List, [], ◌∷◌, ◌++◌, ℕ, ◌+◌, ◌≤◌, ◌<◌, eqb}
 use Rattle.lamport.specs.Order.{limit, before}
-use Rattle.lamport.specs.Table.{Table, waiting, holding}
+use Rattle.lamport.specs.Table.{Table, waiting, holding, sizes_ok, fresh}
 use Rattle.lamport.specs.Steps.{first}
 use Rattle.lamport.specs.Refusals.{is_request, answer, next, after}
 use Rattle.lamport.specs.declared.Step.{Step}
@@ -108,8 +108,8 @@ pub record LastCopy (s₀ : Table) (ks : List Step) (k : Step) (p : ℕ) : Type 
   pub reached : (r : ℕ) → r < s₀.benches → r ≢ p → r ≢ taker → Reached s₀ ks p r
 
 -- while a request that has been carried to all others waits, each other bench is granted at most this often
-abbrev pub most : ℕ
-most = 1
+abbrev pub overtakings : ℕ
+overtakings = 1
 
 -- ---- when nothing is under way
 
@@ -149,7 +149,7 @@ pub record Demand3 (s₀ : Table) : Type 0 where
   -- each other bench is granted at most once, and on a stamp that comes before (T, p)
   pub overtaking : (ks : List Step) (p T : ℕ) → p < s₀.benches → Carried s₀ ks p T
       → (ls : List Step) → count p (grants (after s₀ ks) ls) ≡ 0
-      → ((q : ℕ) → q < s₀.benches → q ≢ p → count q (grants (after s₀ ks) ls) ≤ most)
+      → ((q : ℕ) → q < s₀.benches → q ≢ p → count q (grants (after s₀ ks) ls) ≤ overtakings)
       × Each (λ g. Earlier g (record { stamp = T; bench = p })) (grants (after s₀ ks) ls)
   -- 4: when no message is in transit, nobody holds and somebody waits, there is a waiting bench whose stamp comes first,
   pub somebody : (ks : List Step) → Quiet (after s₀ ks) → (p : ℕ) × ComesFirst (after s₀ ks) p
@@ -160,3 +160,7 @@ pub record Demand3 (s₀ : Table) : Type 0 where
       → answer (after s₀ ks) (Enter p) ≡ entering ((after s₀ ks).clock p)
   -- answered 0, it holds
   pub holds : (ks : List Step) (p : ℕ) → answer (after s₀ ks) (Enter p) ≡ 0 → (next (after s₀ ks) (Enter p)).phase p ≡ holding
+
+-- of every table that is fresh
+abbrev pub Demanded : Type 0
+Demanded = (n capacity start : ℕ) → sizes_ok n capacity ≡ true → start ≤ limit → Demand3 (fresh n capacity start)

@@ -7,6 +7,8 @@ ghost use Rattle.lamport.specs.Table.{sizes_ok, phase_number};
 ghost use Rattle.lamport.specs.Steps.{actor as actor_of, row_of, admitted};
 ghost use Rattle.lamport.specs.Refusals.{to_itself, is_request, answer_number};
 ghost use Rattle.lamport.specs.Codes.{NamesPhase, NamesKind};
+ghost use Rattle.lamport.specs.Starred.{Holds, starred};
+ghost use Rattle.lamport.specs.Arrivals.{Arrivals};
 
 // What a message says: a request, its acknowledgement, or the release of the clock.
 #[derive(Clone, Copy, PartialEq, Eq)]
@@ -296,4 +298,18 @@ pub fn actor(s: Step) -> usize
     match s {
         Step::Ask(p) | Step::Carry(_, p) | Step::Enter(p) | Step::Leave(p) | Step::Mark(p) => p,
     }
+}
+
+// ---- what holds of the rules: these functions do nothing, and each has a theorem for its promise
+
+// The twelve starred cases, as one list.
+pub fn starred_cases()
+    ensures { Holds starred }
+{
+}
+
+// Three orders of arrival, in which a slip would break demand 3.
+pub fn orders_of_arrival()
+    ensures { Arrivals }
+{
 }

@@ -11,9 +11,10 @@ use Rattle.lamport.specs.Refusals.{answer, next}
 use Rattle.words.specs.View.{view}
 use Rattle.words.specs.WellFormed.{well_formed}
 use Rattle.words.proofs.Determined.{determined}
-use Rattle.table.specs.Post.{answer_of, Stepped, Made}
+use Rattle.table.specs.Post.{answer_of, Stepped}
+use Rattle.table.specs.One.{OneOutcome, OneFresh, ZeroIsNone}
 
-pub one-outcome : (t : List ℕ) (s : Step) (r r' : ℕ) (u u' : List ℕ) → Stepped t s r u → Stepped t s r' u' → (r ≡ r') × (u ≡ u')
+pub one-outcome : OneOutcome
 one-outcome t s r r' u u' a b = (same, go (ℕ_discrete r 0))
   where
     same : r ≡ r'
@@ -23,12 +24,17 @@ one-outcome t s r r' u u' a b = (same, go (ℕ_discrete r 0))
     go (yes z) = let z' : r' ≡ 0 = sym same ∙ z in determined u u' (a.formed z) (b.formed z') (a.done z ∙ sym (b.done z'))
     go (no nz) = a.untouched nz ∙ sym (b.untouched (λ z. nz (same ∙ z)))
 
-pub one-fresh : (n k c r r' : ℕ) (u u' : List ℕ) → Made n k c r u → Made n k c r' u' → (r ≡ r') × (u ≡ u')
+pub one-fresh : OneFresh
 one-fresh n k c r r' u u' a b = (a.answered ∙ sym b.answered, go (sizes_ok n k) refl)
   where
     go : (x : Bool) → sizes_ok n k ≡ x → u ≡ u'
     go true e = determined u u' (a.formed e) (b.formed e) (a.done e ∙ sym (b.done e))
     go false e = a.zero e ∙ sym (b.zero e)
+
+-- no bench is too few
+pub zero-is-none : ZeroIsNone
+unfolding well_formed view
+zero-is-none = refl
 
 -- ---- a step on a well-formed table is the rules' step on what is read in it, and leaves one that is well formed
 

@@ -1,2 +1,3 @@
 -- What the engine's entry points promise.
 pub mod Post
+pub mod One

@@ -6,6 +6,7 @@ ghost use Rattle.lamport.specs.Refusals.{outside, may_enter, full, any_full, no_
 ghost use Rattle.words.specs.View.{view};
 ghost use Rattle.words.specs.WellFormed.{well_formed};
 ghost use Rattle.table.specs.Post.{stored, Stepped, Made};
+ghost use Rattle.table.specs.One.{OneOutcome, OneFresh, ZeroIsNone};
 
 mod attempt;
 
@@ -99,7 +100,7 @@ fn check(t: &Table, s: Step) -> Result<(), Refusal>
     Ok(())
 }
 
-// ---- the entry points
+// ---- the step
 
 // Stores what the rules say; between its writes the words are no table. The match names each step, which a table of functions would not.
 fn apply(words: &mut Words, s: Step)
@@ -127,6 +128,8 @@ pub fn step_formed(words: &mut Words, s: Step) -> Result<(), Refusal>
     Ok(())
 }
 
+// ---- the entry points
+
 // A step on whatever words are lent.
 pub fn step(words: &mut Words, s: Step) -> Result<(), Refusal>
     ensures { Stepped words.old s (answer_number result) words.new }
@@ -150,3 +153,17 @@ pub fn fresh(words: &mut Words, setup: Setup) -> Result<(), Refusal>
     store::start(words, setup.benches as usize, setup.start);
     Ok(())
 }
+
+// ---- what holds of these promises: the functions do nothing, and each has a theorem for its own
+
+pub fn one_outcome()
+    ensures { OneOutcome }
+{}
+
+pub fn one_fresh()
+    ensures { OneFresh }
+{}
+
+pub fn zero_is_no_table()
+    ensures { ZeroIsNone }
+{}
