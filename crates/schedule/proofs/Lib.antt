@@ -4,3 +4,4 @@ pub mod WordLaws
 pub mod LineLaws
 pub mod ScheduleLaws
 mod Cases
+pub mod Bytes

@@ -1,10 +1,10 @@
 -- Which schedule is good, and its steps. A refusal has its reason, bad sizes or a bad line, and the line's number, from 1.
-use Rattle.std.specs.Prelude.{cond, List, [], ◌∷◌, ℕ, suc, Option, Some, None, Result, Ok, Err, length, drop, eqb}
+use Rattle.std.specs.Prelude.{cond, List, [], ◌∷◌, ℕ, suc, ◌*◌, ◌≤◌, ◌≡◌, Option, Some, None, Result, Ok, Err, length, drop, eqb}
 use Rattle.lamport.specs.Table.{sizes_ok}
 use Rattle.lamport.specs.declared.Refusal.TheVariants.{BadSizes, BadLine}
 use Rattle.lamport.specs.declared.Setup.{Setup}
 use Rattle.lamport.specs.declared.Step.{Step}
-use Rattle.schedule.specs.Parts.{lf, parts}
+use Rattle.schedule.specs.Parts.{lf, parts, count}
 use Rattle.schedule.specs.Lines.{line_of}
 use Rattle.schedule.specs.declared.Line.{Line}
 use Rattle.schedule.specs.declared.Line.TheVariants as L
@@ -47,6 +47,10 @@ check_lines (h ∷ l ∷ ls) = check_header (line_of h) (l ∷ ls)
 -- a schedule, by its lines
 unfoldable pub check_of : List ℕ → Result Setup Refused
 check_of s = check_lines (parts lf s)
+
+-- each line of a good schedule has six bytes at least, its LF among them
+abbrev pub SixBytes : Type 0
+SixBytes = (s : List ℕ) (setup : Setup) → check_of s ≡ Ok setup → 6 * count lf s ≤ length s
 
 -- of a schedule that was checked the table that it asks for, or the refusal
 abbrev pub setup_in : Result Checked Refused → Result Setup Refused

@@ -7,7 +7,7 @@ ghost use Rattle.lamport.specs.Table.{sizes_ok};
 ghost use Rattle.schedule.specs.Parts.{lf, tab, parts, IsCut, count as count_of};
 ghost use Rattle.schedule.specs.Number.{digit_on, begins_ill, number_of};
 ghost use Rattle.schedule.specs.Lines.{one_bench, two_benches, header as header_of, reading, line_of};
-ghost use Rattle.schedule.specs.Schedule.{check_steps, check_of, setup_in};
+ghost use Rattle.schedule.specs.Schedule.{SixBytes, check_steps, check_of, setup_in};
 
 use lamport::{Refusal, Setup, Step};
 
@@ -232,3 +232,8 @@ pub fn check(schedule: &[u8]) -> Result<Checked, Refused>
     let lines = check_steps(rest)?;
     Ok(Checked { setup, lines })
 }
+
+// Each line of a good schedule has six bytes at least: this does nothing, and has that theorem for its promise.
+pub fn six_bytes_a_line()
+    ensures { SixBytes }
+{}
