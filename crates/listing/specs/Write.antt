@@ -10,6 +10,10 @@ digits_in (suc k) x = cond (ltb x 10) ((48 + x) ∷ []) (digits_in k (x / 10) ++
 unfoldable pub digits : ℕ → List ℕ
 digits x = digits_in 20 x
 
+-- a number below this has five digits at most, as every step's has
+abbrev pub five_digits : ℕ
+five_digits = 100000
+
 -- `out` with w over its front: the bytes after it stay
 unfoldable pub over : List ℕ → List ℕ → List ℕ
 over w out = w ++ drop (length w) out

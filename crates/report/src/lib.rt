@@ -8,6 +8,7 @@ ghost use Rattle.lamport.specs.Table.{phase_number};
 ghost use Rattle.words.specs.Places.{most};
 ghost use Rattle.words.specs.View.{view};
 ghost use Rattle.words.specs.WellFormed.{well_formed};
+ghost use Rattle.listing.specs.Write.{five_digits};
 ghost use Rattle.listing.specs.Record.{record_text};
 ghost use Rattle.report.specs.Report.{earlier, place_of, place_cell, holder_cell, unless_two, record_of};
 
@@ -80,7 +81,7 @@ pub fn record_of(words: &Words, k: usize, no: u32, s: Step) -> Record
     requires few { (view words.now).benches ≤ most }
     requires present { (no ≡ 2 → ⊥) → actor_of s < most }
     ensures exact { result ≡ record_of k no s (view words.now) }
-    ensures short { well_formed words.now ≡ true → ((no ≡ 2 → ⊥) → actor_of s < (view words.now).benches) → k < 100000 → no < 10 → length (record_text result) ≤ 32 }
+    ensures short { well_formed words.now ≡ true → ((no ≡ 2 → ⊥) → actor_of s < (view words.now).benches) → k < five_digits → no < 10 → length (record_text result) ≤ 32 }
 {
     let t = &Few { words };
     let holder = holder(t);

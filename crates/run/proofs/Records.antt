@@ -11,13 +11,9 @@ use Rattle.listing.specs.Record.{record_text}
 use Rattle.listing.specs.declared.Record.{Record}
 use Rattle.report.specs.Report.{record_of}
 use Rattle.run.specs.Listing.{records, lines, refused_one, refused_in}
+use Rattle.run.specs.One.{StepsTaken}
 
--- the lesser of two numbers
-abbrev pub lesser : ℕ → ℕ → ℕ
-lesser a b = a - (a - b)
-
--- the steps taken are the lesser of the budget and the steps that there are
-pub taken_is : (k budget : ℕ) (s : Table) (xs : List Step) → length (records k budget s xs) ≡ lesser budget (length xs)
+pub taken_is : StepsTaken
 unfolding records
 taken_is k zero s xs = omega arith
 taken_is k (suc budget) s [] = omega arith

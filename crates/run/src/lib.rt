@@ -7,9 +7,10 @@ ghost use Rattle.lamport.specs.Table.{sizes_ok, fresh as fresh_of};
 ghost use Rattle.words.specs.View.{view};
 ghost use Rattle.schedule.specs.Parts.{lf, parts, count as count_of};
 ghost use Rattle.schedule.specs.Schedule.{steps_of};
-ghost use Rattle.listing.specs.Write.{Wrote};
+ghost use Rattle.listing.specs.Write.{five_digits, Wrote};
 ghost use Rattle.run.specs.Listing.{refused_one, records, listing};
-ghost use Rattle.run.specs.Run.{run_of, Answers, Turned, RanAs};
+ghost use Rattle.run.specs.One.{OneRun, StepsTaken};
+ghost use Rattle.run.specs.Run.{longest, line_room, run_of, Answers, Turned, RanAs};
 
 mod own;
 
@@ -17,6 +18,11 @@ use lamport::{Refusal, Setup, Step, answer_number};
 use own::Own;
 use schedule::{Line, Refused};
 use words::WORDS;
+
+// The longest schedule, and the room for each of its lines.
+pub const LONGEST: usize = 12288;
+
+pub const LINE_ROOM: usize = 32;
 
 // ---- one step
 
@@ -29,8 +35,8 @@ pub struct Turn {
 
 // Takes the k-th step, and writes its record over the front of `out`.
 fn take_step(t: &mut Own, k: usize, x: Step, out: &mut [u8]) -> Turn
-    requires number { k < 100000 }
-    requires room { 32 ≤ length out.old }
+    requires number { k < five_digits }
+    requires room { line_room ≤ length out.old }
     ensures { Turned t.old.words k x result t.new.words out.old out.new }
 {
     let answer = table::step_formed(&mut t.words, x);
@@ -60,10 +66,10 @@ pub struct Ran {
 
 // Takes the steps of the lines of the text, at most `budget` of them. Each record goes into the rest that the one before has left.
 fn run_lines(text: &[u8], budget: usize, t: &mut Own, out: &mut [u8]) -> Ran
-    requires short { length text.now ≤ 12288 }
-    requires room { 32 * count_of lf text.now ≤ length out.old }
+    requires short { length text.now ≤ longest }
+    requires room { line_room * count_of lf text.now ≤ length out.old }
     ensures exact { RanAs (records 1 budget (view t.old.words) (steps_of (parts lf text.now))) result out.old out.new }
-    ensures small { (result.bytes ≤ 32 * count_of lf text.now) × ((result.taken < 100000) × (result.refused < 100000)) }
+    ensures small { (result.bytes ≤ line_room * count_of lf text.now) × ((result.taken < five_digits) × (result.refused < five_digits)) }
 {
     let mut rest = text;
     let mut ran = Ran {
@@ -103,19 +109,14 @@ fn fresh_table(setup: Setup) -> Own
 // Writes the listing of a run of these lines on a fresh table, with its last line.
 fn put_listing(setup: Setup, lines: &[u8], budget: usize, out: &mut [u8]) -> usize
     requires sizes { sizes_ok setup.benches setup.capacity ≡ true }
-    requires short { length lines.now ≤ 12288 }
-    requires room { 32 * (count_of lf lines.now + 1) ≤ length out.old }
+    requires short { length lines.now ≤ longest }
+    requires room { line_room * (count_of lf lines.now + 1) ≤ length out.old }
     ensures { Wrote (listing (records 1 budget (fresh_of setup.benches setup.capacity setup.start) (steps_of (parts lf lines.now)))) result out.old out.new }
 {
     let mut t = fresh_table(setup);
     let ran = run_lines(lines, budget, &mut t, out);
     ran.bytes + listing::put_end(&mut out[ran.bytes..], ran.taken, ran.refused)
 }
-
-// The longest schedule, and the room for each of its lines.
-const LONGEST: usize = 12288;
-
-const LINE_ROOM: usize = 32;
 
 // Runs the schedule for at most `budget` steps, and writes the listing over the front of `out`. All refusals are found before the first step.
 pub fn run(schedule: &[u8], budget: usize, out: &mut [u8]) -> Result<usize, Refused>
@@ -139,3 +140,13 @@ pub fn run(schedule: &[u8], budget: usize, out: &mut [u8]) -> Result<usize, Refu
     };
     Ok(put_listing(checked.setup, lines, budget, out))
 }
+
+// ---- what holds of this promise: the functions do nothing, and each has a theorem for its own
+
+pub fn one_run()
+    ensures { OneRun }
+{}
+
+pub fn steps_taken()
+    ensures { StepsTaken }
+{}

@@ -210,7 +210,7 @@ pub struct Checked {
 }
 
 // Whether the schedule can be run. All that is refused here is found before the first step.
-#[tactic(auto, using(crate::proofs::ScheduleLaws::heading))]
+#[tactic(auto, using(crate::proofs::ScheduleLaws::heading, crate::proofs::ScheduleLaws::same_good, crate::proofs::PartsLaws::count_cut))]
 pub fn check(schedule: &[u8]) -> Result<Checked, Refused>
     ensures exact { setup_in result ≡ check_of schedule.now }
     ensures sizes { IfOk result (λ c. sizes_ok c.setup.benches c.setup.capacity ≡ true) }

@@ -13,8 +13,9 @@ use Rattle.std.proofs.lemmas.List.{take-append-le}
 use Rattle.std.proofs.Math.Seq.{take-append-add}
 use Rattle.listing.specs.Write.{Wrote}
 use Rattle.run.specs.Run.{run_of}
-use Rattle.run.proofs.Whole.{run-long}
-use Rattle.turns.specs.Shown.{shown}
+use Rattle.schedule.proofs.Bytes.{six_bytes}
+use Rattle.run.proofs.Whole.{run-long, run-done}
+use Rattle.turns.specs.Shown.{budget, room, shown, printed, GoodIsRun}
 use Rattle.turns.proofs.Printed.{written}
 
 -- n bytes are read into the part of the buffer that begins at a
@@ -32,13 +33,17 @@ front_runs s budget room =
     (λ h. ap (λ t. run_of t budget room) (take_all 12289 s h))
     (cases_lt 12289 (length s))
 
-module _ (buf out after : List ℕ) (n bytes : ℕ) (wrote : Wrote (shown (run_of (take n buf) 65535 65568)) bytes out after) where
-  printed : (input : List ℕ) → take n buf ≡ take 12289 input → take bytes after ≡ shown (run_of input 65535 65568)
-  printed input e = written wrote ∙ ap (λ s. shown (run_of s 65535 65568)) e ∙ ap shown (front_runs input 65535 65568)
+module _ (buf out after : List ℕ) (n bytes : ℕ) (wrote : Wrote (shown (run_of (take n buf) budget room)) bytes out after) where
+  printed-all : (input : List ℕ) → take n buf ≡ take 12289 input → take bytes after ≡ printed input
+  printed-all input e = written wrote ∙ ap (λ s. printed s) e ∙ ap shown (front_runs input budget room)
 
   -- what is printed of the input's front is what is printed of the input
   pub told : {E : Type 0} (r : Result ⊤ E) (known a b : Option (List ℕ)) → OnOk r (Appends a b (take bytes after)) → IfSome known (λ input. take n buf ≡ take 12289 input)
-      → OnOk r (IfSome known (λ input. Appends a b (shown (run_of input 65535 65568))))
-  told (Ok x) (Some input) a b w e = subst (Appends a b) (printed input e) w
+      → OnOk r (IfSome known (λ input. Appends a b (printed input)))
+  told (Ok x) (Some input) a b w e = subst (Appends a b) (printed-all input e) w
   told (Ok x) None a b w e = tt
   told (Err e) known a b w k = tt
+
+-- 12,288 bytes have no more than 2,048 lines of six
+pub good_is_run : GoodIsRun
+good_is_run input setup short good = ap (λ o. o.no) (run-done input budget room short good (omega (arith, short, six_bytes input setup good)))

@@ -2,20 +2,21 @@
 #![tactic(auto)]
 
 ghost use Rattle.std.specs.Prelude.{IfOk, OnOk, IfSome, ◌≡◌, ◌≤◌, length, take};
-ghost use Rattle.std.specs.Io.KnownBytes.{Appends};
+ghost use Rattle.std.specs.Io.KnownBytes.{Appends, Consumes};
 ghost use Rattle.listing.specs.Write.{Wrote};
 ghost use Rattle.run.specs.Run.{run_of};
-ghost use Rattle.turns.specs.Shown.{shown};
+ghost use Rattle.turns.specs.Shown.{budget, shown, printed, GoodIsRun};
 
 use lamport::answer_number;
+use run::{LINE_ROOM, LONGEST};
 use std::io;
 use std::io::{Read, Write};
 
 // A byte more than the longest schedule, so that a longer one shows.
-const INPUT: usize = 12289;
+const INPUT: usize = LONGEST + 1;
 
-// Room for the lines of the longest schedule: one that is good has 6 bytes a line.
-const OUTPUT: usize = 65568;
+// Room for as many lines as the longest schedule can have: one that is good has six bytes a line at least.
+const OUTPUT: usize = LINE_ROOM * 2048;
 
 const BUDGET: usize = 65535;
 
@@ -23,6 +24,7 @@ const BUDGET: usize = 65535;
 fn fill<R: Read>(reader: &mut R, buf: &mut [u8]) -> io::Result<usize>
     ensures within { IfOk result (λ n. n ≤ length buf.new) }
     ensures front { IfOk result (λ n. IfSome (R.remaining reader.old) (λ input. take n buf.new ≡ take (length buf.old) input)) }
+    ensures consumed { IfOk result (λ n. Consumes (R.remaining reader.old) (R.remaining reader.new) (take n buf.new)) }
 {
     let mut n = 0;
     while n < buf.len() {
@@ -38,7 +40,7 @@ fn fill<R: Read>(reader: &mut R, buf: &mut [u8]) -> io::Result<usize>
 // Runs the schedule, and writes what is printed of it over the front of `out`.
 fn show(schedule: &[u8], out: &mut [u8]) -> usize
     requires room { 50 ≤ length out.old }
-    ensures text { Wrote (shown (run_of schedule.now 65535 (length out.old))) result out.old out.new }
+    ensures text { Wrote (shown (run_of schedule.now budget (length out.old))) result out.old out.new }
     ensures within { result ≤ length out.new }
 {
     match run::run(schedule, BUDGET, out) {
@@ -50,7 +52,7 @@ fn show(schedule: &[u8], out: &mut [u8]) -> usize
 // Reads a schedule, runs it, and writes what is printed of it and nothing else.
 fn run_all<R: Read, W: Write>(reader: &mut R, writer: &mut W) -> io::Result<()>
     ensures { OnOk result (IfSome (R.remaining reader.old) (λ input.
-        Appends (W.contents writer.old) (W.contents writer.new) (shown (run_of input 65535 65568)))) }
+        Appends (W.contents writer.old) (W.contents writer.new) (printed input))) }
 {
     let mut schedule = [0; INPUT];
     let n = fill(reader, &mut schedule)?;
@@ -58,6 +60,11 @@ fn run_all<R: Read, W: Write>(reader: &mut R, writer: &mut W) -> io::Result<()>
     let bytes = show(&schedule[..n], &mut out);
     writer.write_all(&out[..bytes])
 }
+
+// A good schedule never lacks room: this does nothing, and has that theorem for its promise.
+pub fn good_is_run()
+    ensures { GoodIsRun }
+{}
 
 fn main(rt: HostRuntime) -> io::Result<()> {
     run_all(&mut rt.reader(), &mut io::writer(&rt))
