@@ -53,7 +53,7 @@ ahead p queue q = eqb (queue q) 0 || before (queue p) p (queue q) q
 unfoldable pub own_first : ℕ → ℕ → (ℕ → ℕ) → Bool
 own_first n p queue = every_other n p (ahead p queue)
 
--- what p has heard from q is strictly later than p's own stamp
+-- what p has heard from q is strictly later than p's own stamp, whichever benches they are
 unfoldable pub late_enough : ℕ → ℕ → ℕ → ℕ → Bool
 late_enough p q own heard = ltb own heard
 

@@ -33,12 +33,19 @@ phase_number Idle = idle
 phase_number Waiting = waiting
 phase_number Holding = holding
 
--- 1 to 8 benches, a capacity of 1 to 16 messages
+-- so many benches there are at most, and so many messages on a channel
+abbrev pub most_benches : ℕ
+most_benches = 8
+
+abbrev pub most_messages : ℕ
+most_messages = 16
+
 abbrev pub within : ℕ → ℕ → ℕ → Bool
 within least x most = leb least x && leb x most
 
+-- 1 to 8 benches, a capacity of 1 to 16 messages
 abbrev pub sizes_ok : ℕ → ℕ → Bool
-sizes_ok n capacity = within 1 n 8 && within 1 capacity 16
+sizes_ok n capacity = within 1 n most_benches && within 1 capacity most_messages
 
 -- the answer to sizes: 0, or 9 for bad ones
 abbrev pub sizes_answer : ℕ → ℕ → ℕ

@@ -111,11 +111,16 @@ pub fn answer_number(answer: Result<(), Refusal>) -> u32
     }
 }
 
+// So many benches there are at most, and so many messages on a channel.
+const MOST_BENCHES: u32 = 8;
+
+const MOST_MESSAGES: u32 = 16;
+
 // 1 to 8 benches, and channels of 1 to 16 messages.
 pub fn sizes_ok(n: u32, capacity: u32) -> bool
     ensures { result ≡ sizes_ok n capacity }
 {
-    (1..=8).contains(&n) && (1..=16).contains(&capacity)
+    (1..=MOST_BENCHES).contains(&n) && (1..=MOST_MESSAGES).contains(&capacity)
 }
 
 // ---- stamps and clocks
@@ -228,7 +233,7 @@ pub fn own_first(n: usize, p: usize, queue: &[u32]) -> bool
     (0..n).all(|q| q == p || is_ahead(queue, p, q))
 }
 
-// p, whose own stamp is `own`, has heard late enough from q.
+// p, whose own stamp is `own`, has heard late enough from q. The benches are named for a rule that tells ties apart; this one needs neither.
 #[tactic(auto, unfolding(crate::specs::Order::late_enough))]
 pub fn late_enough(p: usize, q: usize, own: u32, heard: u32) -> bool
     ensures { result ≡ late_enough p q own heard }
@@ -305,11 +310,9 @@ pub fn actor(s: Step) -> usize
 // The twelve starred cases, as one list.
 pub fn starred_cases()
     ensures { Holds starred }
-{
-}
+{}
 
 // Three orders of arrival, in which a slip would break demand 3.
 pub fn orders_of_arrival()
     ensures { Arrivals }
-{
-}
+{}

@@ -67,7 +67,7 @@ fn holder(t: &Few) -> Option<usize>
     (0..t.benches()).find(|q| is_in(t, Bench::new(*q), Phase::Holding))
 }
 
-// The bench that the line is about, unless the answer is that there is none; a number, as in `record_of`.
+// The bench that the line is about, unless the answer, given by its number, is that there is none.
 fn bench_shown(no: u32, s: Step) -> Option<Bench>
     requires present { (no ≡ 2 → ⊥) → actor_of s < most }
     ensures { option_map (λ p. p.number) result ≡ unless_two no (Some (actor_of s)) }

@@ -1,14 +1,19 @@
 -- A number is decimal, 0 to 4294967295, without sign or needless leading zero.
 use Rattle.std.specs.Prelude.{Bool, cond, ◌&&◌, ◌||◌, List, [], ◌∷◌, ℕ, ◌+◌, ◌-◌, ◌*◌, Option, Some, None, length, get_or, eqb, ltb}
+use Rattle.lamport.specs.Order.{limit}
+
+-- the byte of the digit 0
+abbrev pub zero_byte : ℕ
+zero_byte = 48
 
 -- a byte that is none of the ten digits
 abbrev pub no_digit : ℕ → Bool
-no_digit b = ltb b 48 || ltb 57 b
+no_digit b = ltb b zero_byte || ltb (zero_byte + 9) b
 
 -- a number with the digit b behind it
 unfoldable pub digit_on : Option ℕ → ℕ → Option ℕ
 digit_on None b = None
-digit_on (Some x) b = cond (no_digit b || ltb 4294967295 (x * 10 + (b - 48))) None (Some (x * 10 + (b - 48)))
+digit_on (Some x) b = cond (no_digit b || ltb limit (x * 10 + (b - zero_byte))) None (Some (x * 10 + (b - zero_byte)))
 
 -- a number with more digits behind it
 unfoldable pub grow : Option ℕ → List ℕ → Option ℕ
@@ -17,7 +22,7 @@ grow n (b ∷ bs) = grow (digit_on n b) bs
 
 -- empty, or with a needless leading zero: one that more digits follow
 unfoldable pub begins_ill : List ℕ → Bool
-begins_ill s = eqb (length s) 0 || (eqb (get_or s 0 0) 48 && ltb 1 (length s))
+begins_ill s = eqb (length s) 0 || (eqb (get_or s 0 0) zero_byte && ltb 1 (length s))
 
 -- the number that a field is
 unfoldable pub number_of : List ℕ → Option ℕ

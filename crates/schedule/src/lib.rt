@@ -119,7 +119,7 @@ fn two_benches(word: &[u8], p: u32, q: u32) -> Option<Line>
     }
 }
 
-// The line's word is read; `rest` is what follows its tab. The three that read a number differ in how a line may end; one for all would need an array of the numbers read, which grows, and a case for each length.
+// The line's word is read; `rest` is what follows its tab. The next two go on where more numbers follow.
 #[tactic(auto, using(crate::proofs::LineLaws::reading_laws), unfolding(crate::specs::Lines::line_for))]
 fn first_number(word: &[u8], rest: &[u8]) -> Option<Line>
     ensures { result ≡ reading word.now [] (parts tab rest.now) }

@@ -92,7 +92,7 @@ fn act(t: &mut Words, p: Bench, phase: Phase, own: u32)
     t[ENTRIES + p.number * MOST + p.number] = own;
 }
 
-// `ask` and `leave` are no twins: what becomes of the own entry is computed in one, and 0 in the other.
+// p asks: the clock after the step is the stamp of its request.
 pub fn ask(t: &mut Words, p: Bench)
     requires room { Room t.old p.number }
     requires not_spent { clock_of t.old p.number < limit }

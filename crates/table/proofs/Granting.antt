@@ -120,10 +120,6 @@ module _ (t : List ℕ) (w : well_formed t ≡ true) where
   both-in_table : (p q : ℕ) → outside (view t) (Carry p q) ≡ false → (p < benches t) × (q < benches t)
   both-in_table p q o = rw (view-benches t) at (carry-inside t w p q o)
 
-  -- the actor's clock is the stamp
-  stamp-as : (p : ℕ) → p < 8 → clock t p + 1 ≡ (view t).clock p + 1
-  stamp-as p h = ap (λ (x : ℕ). x + 1) (sym (view-clock t p h))
-
   request_kind : (k : Kind) → k ≡ Request → is_request k ≡ true
   request_kind k e = ap is_request e
 

@@ -1,25 +1,27 @@
 -- Where each reading of a table stands among its 32-bit words.
-use Rattle.std.specs.Prelude.{ℕ, ◌+◌, ◌*◌, cond, List, eqb, get_or}
+use Rattle.std.specs.Prelude.{ℕ, ◌+◌, ◌-◌, ◌*◌, cond, List, eqb, get_or}
+use Rattle.lamport.specs.Codes.{code_of}
+use Rattle.lamport.specs.Table.{most_benches, most_messages}
 use Rattle.lamport.specs.declared.Kind.{Kind}
 use Rattle.lamport.specs.declared.Kind.TheVariants.{Request, Ack, Release}
 
 -- there is room for 8 benches, and for 16 messages of 2 words in each channel
 abbrev pub most : ℕ
-most = 8
+most = most_benches
 
 abbrev pub slots : ℕ
-slots = 16
+slots = most_messages
 
 abbrev pub last_slot : ℕ
-last_slot = 15
+last_slot = slots - 1
 
 abbrev pub slot_words : ℕ
 slot_words = 2
 
 abbrev pub channel_words : ℕ
-channel_words = 32
+channel_words = slots * slot_words
 
--- ---- where each block begins: the sizes, a word for each bench, for each pair of benches, for each channel, and the channels' slots
+-- ---- where each block begins, one behind the other: the sizes, a word for each bench, for each pair of benches, for each channel, and the channels' slots
 
 abbrev pub benches_at : ℕ
 benches_at = 0
@@ -31,25 +33,26 @@ abbrev pub first_clock : ℕ
 first_clock = 2
 
 abbrev pub first_phase : ℕ
-first_phase = 10
+first_phase = first_clock + most
 
 abbrev pub first_entry : ℕ
-first_entry = 18
+first_entry = first_phase + most
 
 abbrev pub first_heard : ℕ
-first_heard = 82
+first_heard = first_entry + most * most
 
 abbrev pub first_count : ℕ
-first_count = 146
+first_count = first_heard + most * most
 
 abbrev pub first_kind : ℕ
-first_kind = 210
+first_kind = first_count + most * most
 
 abbrev pub first_stamp : ℕ
-first_stamp = 211
+first_stamp = first_kind + 1
 
+-- 2,258 words in all
 abbrev pub size : ℕ
-size = 2258
+size = first_kind + most * most * channel_words
 
 -- ---- the places
 
@@ -111,4 +114,4 @@ stamp t c i = get_or t (stamp_at c i) 0
 
 -- the kind that a word is
 abbrev pub kind_of : ℕ → Kind
-kind_of code = cond (eqb code 0) Request (cond (eqb code 1) Ack Release)
+kind_of code = cond (eqb code (code_of Request)) Request (cond (eqb code (code_of Ack)) Ack Release)

@@ -1,7 +1,9 @@
 -- Which words are well formed, clause by clause.
 use Rattle.std.specs.Prelude.{ℕ, Bool, cond, not, ◌&&◌, ◌||◌, List, ltb, leb, eqb, length}
+use Rattle.lamport.specs.Codes.{code_of}
 use Rattle.lamport.specs.Each.{all_below}
 use Rattle.lamport.specs.Table.{Table, idle, holding, sizes_ok}
+use Rattle.lamport.specs.declared.Kind.TheVariants.{Request, Release}
 use Rattle.words.specs.Places.{most, slots, size, chan, count, kind, stamp}
 use Rattle.words.specs.View.{view}
 
@@ -51,11 +53,11 @@ link_ok s p q = cond (joined s p q) (capacity_ok s p q) (unjoined_ok s p q)
 
 -- message kinds only those named, message stamps at least 1
 abbrev pub message_ok : List ℕ → ℕ → ℕ → Bool
-message_ok t c i = leb (kind t c i) 2 && leb 1 (stamp t c i)
+message_ok t c i = leb (kind t c i) (code_of Release) && leb 1 (stamp t c i)
 
 -- an unused slot has the kind request and stamp 0
 abbrev pub unused_ok : List ℕ → ℕ → ℕ → Bool
-unused_ok t c i = eqb (kind t c i) 0 && eqb (stamp t c i) 0
+unused_ok t c i = eqb (kind t c i) (code_of Request) && eqb (stamp t c i) 0
 
 abbrev pub slot_ok : List ℕ → ℕ → ℕ → Bool
 slot_ok t c i = cond (ltb i (count t c)) (message_ok t c i) (unused_ok t c i)

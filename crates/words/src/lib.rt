@@ -48,7 +48,7 @@ pub const STAMPS: usize = KINDS + 1;
 
 pub const WORDS: usize = KINDS + MOST * MOST * CHANNEL;
 
-// The caller lends a table as plain words, and an array has no methods of its own. A struct round the lent `&mut` was tried: after a call that takes a `&mut` to it the check no longer knows the words. Words that are known to be a table, and are only read, are a tables::Table.
+// The caller lends a table as plain words. Words that are known to be a table, and are only read, are a tables::Table.
 pub type Words = [u32; WORDS];
 
 // ---- what a table reads
@@ -67,7 +67,7 @@ pub fn capacity(t: &Words) -> u32
     t[CAPACITY]
 }
 
-// This and `phase_word` are one index each: one function for both would be no shorter.
+// The clock of p.
 pub fn clock(t: &Words, p: Bench) -> u32
     ensures { result ≡ (view t.now).clock p.number }
 {
