@@ -22,14 +22,14 @@ fn put_long(out: &mut [u8], x: usize) -> usize
     requires room { length (digits x) ≤ length out.old }
     ensures { Wrote (digits x) result out.old out.new }
 {
-    let at = if x < 100 {
+    let (front, pair) = (x / 100, x % 100);
+    let at = if front == 0 {
         0
-    } else if x < 1000 {
-        put_digit(out, x / 100)
+    } else if front < 10 {
+        put_digit(out, front)
     } else {
-        put_long(out, x / 100)
+        put_long(out, front)
     };
-    let pair = x % 100;
     out[at] = b'0' + (pair / 10) as u8;
     out[at + 1] = b'0' + (pair % 10) as u8;
     at + 2
