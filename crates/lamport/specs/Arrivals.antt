@@ -19,12 +19,12 @@ released =
     Ask 0 ∷ Ask 1 ∷ Carry 0 1 ∷ Carry 1 0 ∷ Carry 1 0 ∷ Enter 0 ∷ Leave 0 ∷ Carry 0 1 ∷ Carry 0 1 ∷ Enter 1 ∷ []
 
 -- every message has arrived and bench 0 alone waits: a receipt that moved no clock would leave it unheard for ever
-abbrev pub acknowledged : List Step
-acknowledged = Ask 0 ∷ Carry 0 1 ∷ Carry 1 0 ∷ []
+abbrev pub all_arrived : List Step
+all_arrived = Ask 0 ∷ Carry 0 1 ∷ Carry 1 0 ∷ []
 
 pub record Arrivals : Type 0 where
   pub first_waits : (arrived none_heard).phase 0 ≡ waiting
   pub second_waits : (arrived none_heard).phase 1 ≡ waiting
   pub granted : (arrived released).phase 1 ≡ holding
   pub stamp : (arrived released).entry 1 1 ≡ 1
-  pub let_in : answer (arrived acknowledged) (Enter 0) ≡ 0
+  pub let_in : answer (arrived all_arrived) (Enter 0) ≡ 0

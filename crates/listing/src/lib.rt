@@ -37,7 +37,7 @@ fn put_long(out: &mut [u8], x: usize) -> usize
 
 // x in decimal. Most numbers of a listing have one digit, and these go no further.
 // By hand, since the contract names each byte that is written, and std's `write!` promises nothing of them.
-pub fn put_number(out: &mut [u8], x: usize) -> usize
+fn put_number(out: &mut [u8], x: usize) -> usize
     requires { length (digits x) ≤ length out.old }
     ensures { Wrote (digits x) result out.old out.new }
 {
@@ -50,7 +50,7 @@ pub fn put_number(out: &mut [u8], x: usize) -> usize
 
 // A field of the listing: a number, or nothing, which is written `-`.
 #[tactic(auto, unfolding(crate::specs::Record::cell_text))]
-pub fn put_cell(out: &mut [u8], cell: Option<usize>) -> usize
+fn put_cell(out: &mut [u8], cell: Option<usize>) -> usize
     requires { length (cell_text cell) ≤ length out.old }
     ensures { Wrote (cell_text cell) result out.old out.new }
 {
