@@ -1,16 +1,16 @@
 -- Laws of repetition: what it says of each number, and how a loop that counts up goes on.
-use Prim.Native.Nat.{ℕ, zero, suc, ◌+◌, ◌<◌}
+use Prim.Native.Nat.{ℕ, zero, suc, ◌+◌, ◌<◌, ◌≤◌}
 use native.Mathlib.Nat.{not-suc-le-zero, le_of_suc-le-suc, eq-or-lt_of_le}
 use native.Mathlib.Numerals.{add-one}
 use native.Mathlib.Omega.{arith}
 use mathlib.Core.Path.{◌≡◌, refl, sym, ap, subst, ◌∙◌}
-use mathlib.Core.Bool.{Bool, true, false, not, ◌&&◌, ◌||◌}
+use mathlib.Core.Bool.{Bool, true, false, cond, not, ◌&&◌, ◌||◌}
 use mathlib.Core.Logic.{⊎_elim}
 use mathlib.Core.List.{List}
 use native.Mathlib.Decide.{ℕ_discrete}
 use borrow.Author.Tests.{eq-eqb, ne_eqb}
 use lib.Dec.{eqb}
-use Rattle.lamport.specs.Each.{some_below, all_below, some_other, every_other, up_to}
+use Rattle.lamport.specs.Each.{some_below, all_below, some_other, every_other, count_below, up_to}
 
 -- ---- tests joined by && and ||
 
@@ -77,6 +77,17 @@ module _ (f : ℕ → Bool) where
   unfolding all_below
   all_all zero h = refl
   all_all (suc n) h = rw (all_all n (λ i l. h i (omega arith))) (h n (omega arith))
+
+module _ (f : ℕ → Bool) where
+  -- f holds of no more numbers than there are
+  pub count_most : (n : ℕ) → count_below f n ≤ n
+  unfolding count_below
+  count_most zero = omega arith
+  count_most (suc n) = go (f n) (count_most n)
+    where
+      go : (b : Bool) → count_below f n ≤ n → count_below f n + cond b 1 0 ≤ suc n
+      go true h = omega arith
+      go false h = omega arith
 
 module _ (f : ℕ → List ℕ → List ℕ) where
   pub up_none : (t : List ℕ) → up_to f 0 t ≡ t

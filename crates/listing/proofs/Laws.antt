@@ -123,7 +123,7 @@ module _ (w v text out : List ℕ) (splits : text ≡ w ++ v) (fits : length tex
   both : length w + length v ≤ length out
   both = omega (arith, simp length-append at (ap length splits))
 
-  front_fits : length w ≤ length out
+  pub front_fits : length w ≤ length out
   front_fits = omega (arith, both)
 
   module _ (l : List ℕ) (at : ℕ) (did : Wrote w at out l) where
@@ -157,12 +157,18 @@ module _ (w v text out : List ℕ) (splits : text ≡ w ++ v) (fits : length tex
               };
         }
 
+-- fields behind others
+pub fields_split : (c : Option ℕ) (cs : List (Option ℕ)) (d : Option ℕ) (ds : List (Option ℕ)) (end : ℕ) → fields ((c ∷ cs) ++ (d ∷ ds)) end ≡ fields (c ∷ cs) tab ++ fields (d ∷ ds) end
+unfolding fields
+fields_split c [] d ds end = simp append_assoc
+fields_split c (e ∷ cs) d ds end = rw (fields_split e cs d ds end) (simp append_assoc)
+
 -- of two fields or more, the first and those behind it
 pub fields_first : (cs : List (Option ℕ)) (end : ℕ) → 2 ≤ length cs → fields cs end ≡ fields (slice_index_or cs 0 None ∷ []) tab ++ fields (take (length cs - 1) (drop 1 cs)) end
 unfolding fields
 fields_first [] end h = absurd (omega arith)
 fields_first (c ∷ []) end h = absurd (omega arith)
-fields_first (c ∷ d ∷ ds) end h = simp (append_assoc, take_all (suc (suc (length ds)) - 1) (d ∷ ds) (omega arith))
+fields_first (c ∷ d ∷ ds) end h = rw (take_all (suc (suc (length ds)) - 1) (d ∷ ds) (omega arith)) (fields_split c [] d ds end)
 
 -- and how long they are together
 pub fields_length : (cs : List (Option ℕ)) (end : ℕ) → 2 ≤ length cs → length (fields cs end) ≡ length (fields (slice_index_or cs 0 None ∷ []) tab) + length (fields (take (length cs - 1) (drop 1 cs)) end)
