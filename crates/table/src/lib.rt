@@ -131,6 +131,7 @@ pub fn step_formed(words: &mut Words, s: Step) -> Result<(), Refusal>
 // ---- the entry points
 
 // A step on whatever words are lent.
+#[tactic(auto, using(crate::proofs::Stepping::no_table))]
 pub fn step(words: &mut Words, s: Step) -> Result<(), Refusal>
     ensures { Stepped words.old s (answer_number result) words.new }
 {

@@ -81,6 +81,7 @@ pub fn phase_word(t: &Words, p: Bench) -> u32
     t[PHASES + p.number]
 }
 
+#[tactic(auto, using(crate::proofs::Named::phase_is_named))]
 pub fn phase(t: &Table, p: Bench) -> Phase
     ensures { phase_number result ≡ (view t.now.words.now).phase p.number }
 {
