@@ -2,19 +2,19 @@
 #![tactic(auto)]
 
 ghost use Rattle.lamport.specs.Starred.{starred};
-ghost use Rattle.engine.specs.Engine.{StepsFollow, EngineDemanded, OneHolds, Answered, HolderTold};
+ghost use Rattle.engine.specs.Engine.{StepsFollow, EngineDemanded, OneHolds, Answered, HolderTold, StampKept};
 
-// The answers and words of any steps are the rules' answers and table.
+// The answers and tables of any steps are the rules' answers and tables.
 pub fn steps_follow()
     ensures { StepsFollow }
 {}
 
-// All of Demand3, of what is read in the words that `fresh` makes.
+// All of Demand3, of what is read in the table that `fresh` makes.
 pub fn demand_3()
     ensures { EngineDemanded }
 {}
 
-// At most one bench holds in the words.
+// At most one bench holds in the table.
 pub fn one_holds()
     ensures { OneHolds }
 {}
@@ -27,4 +27,9 @@ pub fn holder_told()
 // The twelve starred cases, as the engine answers them.
 pub fn starred_answered()
     ensures { Answered starred }
+{}
+
+// The counts that are handed out after a `mark` are those of that event.
+pub fn stamp_kept()
+    ensures { StampKept }
 {}

@@ -6,7 +6,6 @@ use native.Mathlib.Omega.{arith}
 use mathlib.Core.Path.{◌≡◌, refl, sym, ap, subst, ◌∙◌}
 use mathlib.Core.Bool.{Bool, true, false, cond, not, ◌&&◌, ◌||◌}
 use mathlib.Core.Logic.{⊎_elim}
-use mathlib.Core.List.{List}
 use native.Mathlib.Decide.{ℕ_discrete}
 use borrow.Author.Tests.{eq-eqb, ne_eqb}
 use lib.Dec.{eqb}
@@ -89,16 +88,16 @@ module _ (f : ℕ → Bool) where
       go true h = omega arith
       go false h = omega arith
 
-module _ (f : ℕ → List ℕ → List ℕ) where
-  pub up_none : (t : List ℕ) → up_to f 0 t ≡ t
+module _ {A : Type 0} (f : ℕ → A → A) where
+  pub up_none : (t : A) → up_to f 0 t ≡ t
   unfolding up_to
   up_none t = refl
 
-  pub up_more : (i : ℕ) (t : List ℕ) → up_to f (i + 1) t ≡ f i (up_to f i t)
+  pub up_more : (i : ℕ) (t : A) → up_to f (i + 1) t ≡ f i (up_to f i t)
   unfolding up_to
   up_more i t = rw add-one
 
-  pub up-end : (i n : ℕ) (t s : List ℕ) → i ≡ n → s ≡ up_to f i t → s ≡ up_to f n t
+  pub up-end : (i n : ℕ) (t s : A) → i ≡ n → s ≡ up_to f i t → s ≡ up_to f n t
   up-end i n t s q e = e ∙ ap (λ (k : ℕ). up_to f k t) q
 
 -- ---- every other bench than p, and some other

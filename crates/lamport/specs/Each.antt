@@ -1,5 +1,5 @@
 -- Repetition over 0, 1, .. n - 1, in that order.
-use Rattle.std.specs.Prelude.{ℕ, zero, suc, ◌+◌, Bool, true, false, cond, not, ◌&&◌, ◌||◌, List, eqb}
+use Rattle.std.specs.Prelude.{ℕ, zero, suc, ◌+◌, Bool, true, false, cond, not, ◌&&◌, ◌||◌, eqb}
 
 -- f holds of some number below n
 unfoldable pub some_below : (ℕ → Bool) → ℕ → Bool
@@ -25,6 +25,6 @@ abbrev pub every_other : ℕ → ℕ → (ℕ → Bool) → Bool
 every_other n p f = all_below (λ q. eqb q p || f q) n
 
 -- t after f 0, then f 1, .. then f (n - 1)
-unfoldable pub up_to : (ℕ → List ℕ → List ℕ) → ℕ → List ℕ → List ℕ
+unfoldable pub up_to : {A : Type 0} → (ℕ → A → A) → ℕ → A → A
 up_to f zero t = t
 up_to f (suc n) t = f n (up_to f n t)

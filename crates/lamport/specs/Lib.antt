@@ -5,5 +5,7 @@ pub mod Table
 pub mod Codes
 pub mod Steps
 pub mod Refusals
+pub mod Vectors
+pub mod Counted
 pub mod Starred
 pub mod Arrivals

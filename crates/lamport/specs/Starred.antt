@@ -1,7 +1,7 @@
 -- Twelve cases, on both sides of the limits that the rules set, as one list.
 use Rattle.std.specs.Prelude.{ℕ, ◌≡◌, List, [], ◌∷◌}
-use Rattle.lamport.specs.Table.{fresh, sizes_answer}
-use Rattle.lamport.specs.Refusals.{answers, after}
+use Rattle.lamport.specs.Table.{sizes_answer}
+use Rattle.lamport.specs.Counted.{counted_fresh, counted_answers, counted_after}
 use Rattle.lamport.specs.declared.Step.{Step}
 use Rattle.lamport.specs.declared.Step.TheVariants.{Ask, Carry, Enter, Leave, Mark}
 
@@ -13,7 +13,7 @@ abbrev pub Holds : List Case → Type 0
 Holds [] = Unit {0}
 Holds (case n capacity start size ks told clock ∷ cs) =
     ((sizes_answer n capacity ≡ size)
-    × ((answers (fresh n capacity start) ks ≡ told) × ((after (fresh n capacity start) ks).clock 0 ≡ clock)))
+    × ((counted_answers (counted_fresh n capacity start) ks ≡ told) × ((counted_after (counted_fresh n capacity start) ks).table.clock 0 ≡ clock)))
     × Holds cs
 
 abbrev pub starred : List Case

@@ -37,7 +37,7 @@ abbrev pub first : List Message → Message
 first [] = record { kind = Request; stamp = 0 }
 first (m ∷ ms) = m
 
-abbrev pub rest : List Message → List Message
+abbrev pub rest : {A : Type 0} → List A → List A
 rest [] = []
 rest (m ∷ ms) = ms
 
@@ -49,7 +49,7 @@ abbrev pub at2 : {A : Type 0} → (ℕ → ℕ → A) → ℕ → ℕ → A → 
 at2 f p q v a b = cond (eqb a p && eqb b q) v (f a b)
 
 -- the messages `out` join p's channels to every other bench of n
-abbrev pub sends : ℕ → (ℕ → ℕ → List Message) → ℕ → List Message → ℕ → ℕ → List Message
+abbrev pub sends : {A : Type 0} → ℕ → (ℕ → ℕ → List A) → ℕ → List A → ℕ → ℕ → List A
 sends n channels p out a b = cond (eqb a p && (not (eqb b p) && ltb b n)) (channels a b ++ out) (channels a b)
 
 -- bench p acts by itself: LC1, its phase and its own entry as given, and `out` sent to every other bench

@@ -8,7 +8,7 @@ use native.Mathlib.Numerals.{add-one}
 use native.Mathlib.Nat.{div-lt_iff_lt-mul, pow-suc}
 use lib.Dec.{ltb, lit<}
 use lib.ListN.{length, take, drop, set, length-append, length-drop, drop_of_length-le}
-use lib.Seq.{drop-cons, append_snoc, set_at, take_at, drop_at, drop-drop, take_all}
+use lib.Seq.{drop-cons, append_snoc, set_at, take_at, drop_at, drop-drop, take_all, take-append_seam}
 use borrow.Rule.Slice.PartMut.{put_mid}
 use borrow.Author.Tests.{lt-ltb, le-ltb}
 use Rattle.std.specs.Prelude.{Option, Some, None, slice_index_or}
@@ -111,6 +111,15 @@ pub over-one : (out : List ℕ) (b : ℕ) (w : List ℕ) → 0 < length out → 
 unfolding over
 over-one (x ∷ xs) b w h e = rw e (record { bytes = refl; text = refl })
 over-one [] b w h e = absurd (omega arith)
+
+-- what is written is no longer than the output, and is its front
+pub written-within : {w out after : List ℕ} {n : ℕ} → Wrote w n out after → n ≤ length after
+unfolding over
+written-within {w} {out} {after} {n} a = let l = length-append w (drop (length w) out) in omega (arith, a.bytes, ap length a.text, l)
+
+pub written-front : {w out after : List ℕ} {n : ℕ} → Wrote w n out after → take n after ≡ w
+unfolding over
+written-front {w} {out} a = rw (a.bytes, a.text, take-append_seam w (drop (length w) out))
 
 -- w was written over the front of `out`, which gave l, and the rest of l is lent from `at` on for v
 pub record Lent (w v text out l : List ℕ) (at : ℕ) : Type 0 where

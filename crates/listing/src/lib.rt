@@ -125,7 +125,7 @@ pub fn put_record(out: &mut [u8], r: Record) -> usize
 
 // A word, copied.
 #[tactic(auto, unfolding(crate::specs::Write::over))]
-fn put_word(out: &mut [u8], word: &[u8]) -> usize
+pub fn put_word(out: &mut [u8], word: &[u8]) -> usize
     requires { length word.now ≤ length out.old }
     ensures { Wrote word.now result out.old out.new }
 {

@@ -12,12 +12,9 @@ ghost use Rattle.run.specs.Listing.{refused_one, records, listing};
 ghost use Rattle.run.specs.One.{OneRun, StepsTaken};
 ghost use Rattle.run.specs.Run.{longest, line_room, run_of, Answers, Turned, RanAs};
 
-mod own;
-
 use lamport::{Refusal, Setup, Step, answer_number};
-use own::Own;
+use reached::Reached;
 use schedule::{Line, Refused};
-use words::WORDS;
 
 // The longest schedule, and the room for each of its lines.
 pub const LONGEST: usize = 12288;
@@ -34,13 +31,13 @@ pub struct Turn {
 }
 
 // Takes the k-th step, and writes its record over the front of `out`.
-fn take_step(t: &mut Own, k: usize, x: Step, out: &mut [u8]) -> Turn
+fn take_step(t: &mut Reached, k: usize, x: Step, out: &mut [u8]) -> Turn
     requires number { k < five_digits }
     requires room { line_room ≤ length out.old }
-    ensures { Turned t.old.words k x result t.new.words out.old out.new }
+    ensures { Turned t.old.lent.words k x result t.new.lent.words out.old out.new }
 {
-    let answer = table::step_formed(&mut t.words, x);
-    let r = report::record_of(&t.words, k, answer_number(answer), x);
+    let answer = reached::step(t, x);
+    let r = report::record_of(&t.lent.words, k, answer_number(answer), x);
     Turn {
         answer,
         bytes: listing::put_record(out, r),
@@ -65,10 +62,10 @@ pub struct Ran {
 }
 
 // Takes the steps of the lines of the text, at most `budget` of them. Each record goes into the rest that the one before has left.
-fn run_lines(text: &[u8], budget: usize, t: &mut Own, out: &mut [u8]) -> Ran
+fn run_lines(text: &[u8], budget: usize, t: &mut Reached, out: &mut [u8]) -> Ran
     requires short { length text.now ≤ longest }
     requires room { line_room * count_of lf text.now ≤ length out.old }
-    ensures exact { RanAs (records 1 budget (view t.old.words) (steps_of (parts lf text.now))) result out.old out.new }
+    ensures exact { RanAs (records 1 budget (view t.old.lent.words) (steps_of (parts lf text.now))) result out.old out.new }
     ensures small { (result.bytes ≤ line_room * count_of lf text.now) × ((result.taken < five_digits) × (result.refused < five_digits)) }
 {
     let mut rest = text;
@@ -96,16 +93,6 @@ fn run_lines(text: &[u8], budget: usize, t: &mut Own, out: &mut [u8]) -> Ran
 
 // ---- the run
 
-// A fresh table, for sizes that are good.
-fn fresh_table(setup: Setup) -> Own
-    requires sizes { sizes_ok setup.benches setup.capacity ≡ true }
-    ensures { view result.words ≡ fresh_of setup.benches setup.capacity setup.start }
-{
-    let mut words = [0; WORDS];
-    let _ = table::fresh(&mut words, setup);
-    Own { words }
-}
-
 // Writes the listing of a run of these lines on a fresh table, with its last line.
 fn put_listing(setup: Setup, lines: &[u8], budget: usize, out: &mut [u8]) -> usize
     requires sizes { sizes_ok setup.benches setup.capacity ≡ true }
@@ -113,7 +100,7 @@ fn put_listing(setup: Setup, lines: &[u8], budget: usize, out: &mut [u8]) -> usi
     requires room { line_room * (count_of lf lines.now + 1) ≤ length out.old }
     ensures { Wrote (listing (records 1 budget (fresh_of setup.benches setup.capacity setup.start) (steps_of (parts lf lines.now)))) result out.old out.new }
 {
-    let mut t = fresh_table(setup);
+    let mut t = reached::fresh(setup);
     let ran = run_lines(lines, budget, &mut t, out);
     ran.bytes + listing::put_end(&mut out[ran.bytes..], ran.taken, ran.refused)
 }

@@ -29,7 +29,7 @@ pub fn cut_line(text: &[u8]) -> Option<(&[u8], &[u8])>
 }
 
 // The first field of a line, and what follows its tab: parts of the schedule's own bytes. `None` where no tab ends it.
-fn cut_field(line: &[u8]) -> Option<(&[u8], &[u8])>
+pub fn cut_field(line: &[u8]) -> Option<(&[u8], &[u8])>
     ensures { MatchOption result (parts tab line.now ≡ line.now ∷ []) (λ x. IsCut tab line.now x.0.now x.1.now) }
 {
     cut(line, b'\t')
@@ -170,7 +170,7 @@ pub struct Refused {
     pub line: usize,
 }
 
-fn bad_line(line: usize) -> Refused
+pub fn bad_line(line: usize) -> Refused
     ensures refusal { result.refusal ≡ BadLine }
     ensures line { result.line ≡ line }
 {

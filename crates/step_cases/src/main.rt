@@ -1,11 +1,13 @@
-// Executes step cases at the limits of each rule, and steps on damaged tables, and prints each answer with a digest of the words after it.
+// Executes step cases at the limits of each rule, and steps on damaged tables, and prints each answer with a digest of the words and one of the counts after it.
 #![tactic(auto)]
 
+use counted::{Lent, counts_of, step};
 use lamport::{Setup, Step, answer_number};
 use std::io;
+use vectors::{FIRST_SLOT, ROWS, Rows};
 use words::{
     BENCHES, CAPACITY, CHANNEL, CLOCKS, COUNTS, ENTRIES, HEARD, KINDS, LAST, MOST, PHASES, SLOT,
-    STAMPS, WORDS, Words,
+    SLOTS, STAMPS, WORDS, Words,
 };
 
 const LIMIT: u32 = u32::MAX;
@@ -20,6 +22,14 @@ fn digest(words: &Words) -> u64 {
     words.iter().fold(7, |d, word| mixed(d, *word))
 }
 
+fn row_digest(digest: u64, row: &[u32]) -> u64 {
+    row.iter().fold(digest, |d, count| mixed(d, *count))
+}
+
+fn counts_digest(counts: &Rows) -> u64 {
+    counts.iter().fold(7, |d, row| row_digest(d, row))
+}
+
 // ---- cases from a fresh table
 
 fn setup(benches: u32, capacity: u32, start: u32) -> Setup {
@@ -32,16 +42,20 @@ fn setup(benches: u32, capacity: u32, start: u32) -> Setup {
 
 // The answer to the sizes, the answers to the steps, bench 0's clock and the digest.
 fn case(rt: &impl Print, name: &str, setup: Setup, steps: &[Step]) -> io::Result<()> {
-    let mut words = [1; WORDS];
-    let made = answer_number(table::fresh(&mut words, setup));
+    let mut lent = Lent {
+        words: [1; WORDS],
+        counts: [[1; MOST]; ROWS],
+    };
+    let made = answer_number(counted::fresh(&mut lent, setup));
     print!(rt; "{name}: {made}")?;
     for s in steps {
-        let answer = answer_number(table::step(&mut words, *s));
+        let answer = answer_number(step(&mut lent, *s));
         print!(rt; " {answer}")?;
     }
-    let clock = words[CLOCKS];
-    let d = digest(&words);
-    println!(rt; "  clock {clock}  words {d}")
+    let clock = lent.words[CLOCKS];
+    let d = digest(&lent.words);
+    let e = counts_digest(&lent.counts);
+    println!(rt; "  clock {clock}  words {d}  counts {e}")
 }
 
 fn sizes(rt: &impl Print) -> io::Result<()> {
@@ -149,10 +163,22 @@ fn whole_run(rt: &impl Print) -> io::Result<()> {
 
 // ---- damaged tables
 
+fn zero() -> Lent {
+    Lent {
+        words: [0; WORDS],
+        counts: [[0; MOST]; ROWS],
+    }
+}
+
+fn fresh(benches: u32, capacity: u32, start: u32) -> Lent {
+    let mut lent = zero();
+    let _ = counted::fresh(&mut lent, setup(benches, capacity, start));
+    lent
+}
+
 // A table of 3 benches, capacity 2: bench 0 holds, bench 1 waits and bench 2 is idle. A request is on the way from 1 to 2, an acknowledgement from 0 to 1.
-fn reached() -> Words {
-    let mut words = [0; WORDS];
-    let _ = table::fresh(&mut words, setup(3, 2, 5));
+fn reached() -> Lent {
+    let mut lent = fresh(3, 2, 5);
     for s in [
         Step::Ask(0),
         Step::Carry(0, 1),
@@ -163,9 +189,9 @@ fn reached() -> Words {
         Step::Ask(1),
         Step::Carry(1, 0),
     ] {
-        let _ = table::step(&mut words, s);
+        let _ = step(&mut lent, s);
     }
-    words
+    lent
 }
 
 // A word of the table, and what is put there.
@@ -179,16 +205,10 @@ fn put(place: usize, word: u32) -> Change {
     Change { place, word }
 }
 
-// Whether a step of each kind leaves every word as it was.
-fn damaged(rt: &impl Print, name: &str, table: &Words, changes: &[Change]) -> io::Result<()> {
-    let mut words = *table;
-    for change in changes {
-        if let Some(word) = words.get_mut(change.place) {
-            *word = change.word;
-        }
-    }
+// Whether a step of each kind leaves every word and every count as it was.
+fn tried(rt: &impl Print, name: &str, lent: &mut Lent) -> io::Result<()> {
     print!(rt; "{name}:")?;
-    let before = digest(&words);
+    let before = (digest(&lent.words), counts_digest(&lent.counts));
     for s in [
         Step::Ask(2),
         Step::Carry(1, 2),
@@ -196,23 +216,32 @@ fn damaged(rt: &impl Print, name: &str, table: &Words, changes: &[Change]) -> io
         Step::Leave(0),
         Step::Mark(0),
     ] {
-        let answer = answer_number(table::step(&mut words, s));
+        let answer = answer_number(step(lent, s));
         print!(rt; " {answer}")?;
     }
-    let after = digest(&words);
+    let after = (digest(&lent.words), counts_digest(&lent.counts));
     let left = if after == before {
         "as it was"
     } else {
         "changed"
     };
-    println!(rt; "  {left}  words {after}")
+    println!(rt; "  {left}  words {}  counts {}", after.0, after.1)
+}
+
+fn damaged(rt: &impl Print, name: &str, table: &Lent, changes: &[Change]) -> io::Result<()> {
+    let mut lent = *table;
+    for change in changes {
+        if let Some(word) = lent.words.get_mut(change.place) {
+            *word = change.word;
+        }
+    }
+    tried(rt, name, &mut lent)
 }
 
 // Each table below that is answered 1 breaks one clause of "well formed" and no other.
 fn damaged_sizes(rt: &impl Print) -> io::Result<()> {
-    let zero = [0; WORDS];
-    let mut fresh = zero;
-    let _ = table::fresh(&mut fresh, setup(8, 4, 0));
+    let zero = zero();
+    let fresh = fresh(8, 4, 0);
     damaged(
         rt,
         "one bench, all else zero",
@@ -302,7 +331,7 @@ fn damaged_pairs(rt: &impl Print) -> io::Result<()> {
 fn damaged_channels(rt: &impl Print) -> io::Result<()> {
     let table = reached();
     let mut two_sent = table;
-    let _ = table::step(&mut two_sent, Step::Leave(0));
+    let _ = step(&mut two_sent, Step::Leave(0));
     let absent = 3;
     damaged(rt, "two messages, capacity 2", &two_sent, &[])?;
     damaged(
@@ -400,6 +429,91 @@ fn damaged_slots(rt: &impl Print) -> io::Result<()> {
     )
 }
 
+// ---- damaged counts
+
+// A count of the table, and what is put there.
+fn damaged_count(rt: &impl Print, name: &str, row: usize, bench: usize) -> io::Result<()> {
+    let mut lent = reached();
+    if let Some(counts) = lent.counts.get_mut(row) {
+        counts[bench % MOST] = 1;
+    }
+    tried(rt, name, &mut lent)
+}
+
+fn damaged_counts(rt: &impl Print) -> io::Result<()> {
+    let absent = 3;
+    let from_1_to_2 = FIRST_SLOT + (MOST + 2) * SLOTS;
+    damaged_count(rt, "a count of a bench that is there", 0, 2)?;
+    damaged_count(rt, "a count at an absent bench", absent, 0)?;
+    damaged_count(rt, "a count for an absent bench", 0, absent)?;
+    damaged_count(rt, "a message brings a count", from_1_to_2, 0)?;
+    damaged_count(
+        rt,
+        "a message brings one for an absent bench",
+        from_1_to_2,
+        7,
+    )?;
+    damaged_count(rt, "a count in an unused slot", from_1_to_2 + 1, 0)?;
+    damaged_count(rt, "a count in the last slot", from_1_to_2 + LAST, 0)?;
+    damaged_count(rt, "a count in a bench's channel to itself", FIRST_SLOT, 0)?;
+    damaged_count(rt, "a count in an absent bench's channel", ROWS - 1, 7)
+}
+
+// ---- 8 by a count: a table set by hand, since none that is reached has such a count
+
+// Two benches; bench 1 has asked, and the own count of bench 0 is as given. A mark of bench 0, the carry of the request to it, and a mark again.
+fn spent(rt: &impl Print, name: &str, own: u32) -> io::Result<()> {
+    let mut lent = fresh(2, 4, 0);
+    let _ = step(&mut lent, Step::Ask(1));
+    lent.counts[0][0] = own;
+    print!(rt; "{name}:")?;
+    for s in [Step::Mark(0), Step::Carry(1, 0), Step::Mark(0)] {
+        let answer = answer_number(step(&mut lent, s));
+        let count = lent.counts[0][0];
+        print!(rt; " {answer} {count}")?;
+    }
+    let e = counts_digest(&lent.counts);
+    println!(rt; "  counts {e}")
+}
+
+fn spent_counts(rt: &impl Print) -> io::Result<()> {
+    spent(rt, "own count 4294967291", LIMIT - 4)?;
+    spent(rt, "own count 4294967292", LIMIT - 3)?;
+    spent(rt, "own count 4294967293", LIMIT - 2)?;
+    spent(rt, "own count 4294967294", LIMIT - 1)?;
+    spent(rt, "own count 4294967295", LIMIT)
+}
+
+// ---- a bench's counts are handed out
+
+fn handed(rt: &impl Print, name: &str, lent: &Lent, bench: usize) -> io::Result<()> {
+    let mut stamp = [9; MOST];
+    let answer = answer_number(counts_of(lent, bench, &mut stamp));
+    print!(rt; "{name}: {answer} ")?;
+    for count in stamp {
+        print!(rt; " {count}")?;
+    }
+    println!(rt; "")
+}
+
+fn handed_counts(rt: &impl Print) -> io::Result<()> {
+    let table = reached();
+    let mut broken = table;
+    broken.counts[ROWS - 1][7] = 1;
+    handed(rt, "counts of bench 0", &table, 0)?;
+    handed(rt, "counts of bench 1", &table, 1)?;
+    handed(rt, "counts of bench 2", &table, 2)?;
+    handed(rt, "counts of bench 3 of 3", &table, 3)?;
+    handed(rt, "counts of bench 0, a damaged table", &broken, 0)?;
+    handed(rt, "counts of bench 3, a damaged table", &broken, 3)?;
+    handed(
+        rt,
+        "counts of bench 18446744073709551615",
+        &table,
+        usize::MAX,
+    )
+}
+
 fn main(rt: HostRuntime) -> io::Result<()> {
     sizes(&rt)?;
     steps(&rt)?;
@@ -408,5 +522,8 @@ fn main(rt: HostRuntime) -> io::Result<()> {
     damaged_benches(&rt)?;
     damaged_pairs(&rt)?;
     damaged_channels(&rt)?;
-    damaged_slots(&rt)
+    damaged_slots(&rt)?;
+    damaged_counts(&rt)?;
+    spent_counts(&rt)?;
+    handed_counts(&rt)
 }

@@ -1,5 +1,4 @@
 -- Laws that the proofs share, here and in the crates above.
 pub mod Granting
 pub mod Rows
-pub mod Stepping
-pub mod Determined
+pub mod Making

@@ -1,3 +1,2 @@
 -- What the engine's entry points promise.
 pub mod Post
-pub mod One

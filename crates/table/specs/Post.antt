@@ -1,27 +1,13 @@
 -- What the engine's entry points promise, of the words at entry and at exit.
-use Rattle.std.specs.Prelude.{ℕ, ◌≡◌, true, false, cond, List, replicate}
+use Rattle.std.specs.Prelude.{ℕ, ◌≡◌, true, false, List, replicate}
 use Rattle.lamport.specs.Table.{sizes_ok, sizes_answer, fresh}
 use Rattle.lamport.specs.Steps.{first}
-use Rattle.lamport.specs.Refusals.{answer, next}
 use Rattle.lamport.specs.declared.Step.{Step}
 use Rattle.lamport.specs.declared.Step.TheVariants.{Ask, Carry, Enter, Leave, Mark}
 use Rattle.words.specs.Places.{size}
 use Rattle.words.specs.View.{view}
 use Rattle.words.specs.WellFormed.{well_formed}
 use Rattle.store.specs.Stores.{asked, left, entered, marked, carried}
-
--- 1: the table isn't well formed; else what the rules say
-unfoldable pub answer_of : List ℕ → Step → ℕ
-answer_of t s = cond (well_formed t) (answer (view t) s) 1
-
--- the step s on the words t is answered r, and leaves the words u
-pub record Stepped (t : List ℕ) (s : Step) (r : ℕ) (u : List ℕ) : Type 0 where
-  pub answered : r ≡ answer_of t s
-  -- a refusal returns the table given
-  pub untouched : (r ≡ 0 → ⊥) → u ≡ t
-  -- done leaves the rules' next table, well formed, which fixes every word
-  pub done : r ≡ 0 → view u ≡ next (view t) s
-  pub formed : r ≡ 0 → well_formed u ≡ true
 
 -- a fresh table of n benches: the answer r and the words u
 pub record Made (n capacity start r : ℕ) (u : List ℕ) : Type 0 where

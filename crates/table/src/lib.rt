@@ -1,12 +1,11 @@
-// The engine: make a fresh table, and take a step on it, in the words that the caller lends.
+// The words of a table: a fresh one, whether a step is refused, and what a step stores.
 #![tactic(auto)]
 
 ghost use Rattle.std.specs.Prelude.{◌≡◌, true, ◌<◌, length};
 ghost use Rattle.lamport.specs.Refusals.{outside, may_enter, full, any_full, no_room, answer, answer_number};
 ghost use Rattle.words.specs.View.{view};
 ghost use Rattle.words.specs.WellFormed.{well_formed};
-ghost use Rattle.table.specs.Post.{stored, Stepped, Made};
-ghost use Rattle.table.specs.One.{OneOutcome, OneFresh, ZeroIsNone};
+ghost use Rattle.table.specs.Post.{stored, Made};
 
 mod attempt;
 
@@ -15,9 +14,7 @@ use lamport::{Refusal, Setup, Step, actor, is_request, is_to_itself, sizes_ok};
 use store::{ask, carry, enter, leave, mark};
 use words::numbers::Bench;
 use words::tables::Table;
-use words::{
-    BENCHES, CAPACITY, WORDS, Words, capacity, count, hearing, oldest, queue, well_formed,
-};
+use words::{BENCHES, CAPACITY, WORDS, Words, capacity, count, hearing, oldest, queue};
 
 // The largest clock.
 const LIMIT: usize = u32::MAX as usize;
@@ -71,7 +68,7 @@ fn no_reply(t: &Table, p: Bench, q: Bench) -> bool
 
 // The first refusal that applies, in the order of the numbers, or that the step can be done. It only reads.
 #[tactic(auto, unfolding(lamport::specs::Refusals::answer))]
-fn check(t: &Table, s: Step) -> Result<(), Refusal>
+pub fn check(t: &Table, s: Step) -> Result<(), Refusal>
     ensures { answer_number result ≡ answer (view t.now.words.now) s }
 {
     if is_outside(t, s) {
@@ -103,7 +100,7 @@ fn check(t: &Table, s: Step) -> Result<(), Refusal>
 // ---- the step
 
 // Stores what the rules say; between its writes the words are no table. The match names each step, which a table of functions would not.
-fn apply(words: &mut Words, s: Step)
+pub fn apply(words: &mut Words, s: Step)
     requires formed { well_formed words.old ≡ true }
     requires done { answer (view words.old) s ≡ 0 }
     ensures { words.new ≡ stored words.old s }
@@ -118,28 +115,7 @@ fn apply(words: &mut Words, s: Step)
     }
 }
 
-// A step on words that are known to be a table: nothing is scanned. Nothing is written before the last test has passed.
-pub fn step_formed(words: &mut Words, s: Step) -> Result<(), Refusal>
-    requires { well_formed words.old ≡ true }
-    ensures { Stepped words.old s (answer_number result) words.new }
-{
-    check(&Table { words: &*words }, s)?;
-    apply(words, s);
-    Ok(())
-}
-
-// ---- the entry points
-
-// A step on whatever words are lent.
-#[tactic(auto, using(crate::proofs::Stepping::no_table))]
-pub fn step(words: &mut Words, s: Step) -> Result<(), Refusal>
-    ensures { Stepped words.old s (answer_number result) words.new }
-{
-    if !well_formed(&*words) {
-        return Err(Refusal::Malformed);
-    }
-    step_formed(words, s)
-}
+// ---- a fresh table
 
 // A fresh table of so many benches; bad sizes leave words that are all zero.
 pub fn fresh(words: &mut Words, setup: Setup) -> Result<(), Refusal>
@@ -154,17 +130,3 @@ pub fn fresh(words: &mut Words, setup: Setup) -> Result<(), Refusal>
     store::start(words, setup.benches as usize, setup.start);
     Ok(())
 }
-
-// ---- what holds of these promises: the functions do nothing, and each has a theorem for its own
-
-pub fn one_outcome()
-    ensures { OneOutcome }
-{}
-
-pub fn one_fresh()
-    ensures { OneFresh }
-{}
-
-pub fn zero_is_no_table()
-    ensures { ZeroIsNone }
-{}

@@ -1,15 +1,14 @@
--- A refused run leaves the output, and what is printed of it is the line that says why; a text that is written is no longer than the output.
-use Prim.Native.Nat.{ℕ, ◌≤◌}
+-- A refused run leaves the output, and what is printed of it is the line that says why.
+use Prim.Native.Nat.{ℕ}
 use native.Mathlib.Omega.{arith}
-use mathlib.Core.Path.{◌≡◌, refl, sym, ap}
+use mathlib.Core.Path.{◌≡◌, refl, sym}
 use mathlib.Core.List.{List, [], ◌∷◌}
 use borrow.Author.Tests.{ne_eqb}
-use lib.ListN.{length, take, drop, length-append}
-use Rattle.std.proofs.Math.Seq.{take-append_seam}
+use lib.ListN.{length}
 use Rattle.std.specs.Prelude.{Err}
 use Rattle.lamport.specs.Refusals.{number}
 use Rattle.lamport.proofs.Numbers.{number-some}
-use Rattle.listing.specs.Write.{over, Wrote}
+use Rattle.listing.specs.Write.{over}
 use Rattle.listing.specs.Record.{refused_text}
 use Rattle.schedule.specs.declared.Refused.{Refused}
 use Rattle.run.specs.Run.{Outcome, Answers}
@@ -18,14 +17,6 @@ use Rattle.turns.specs.Shown.{shown}
 nothing : (xs : List ℕ) → length xs ≡ 0 → xs ≡ []
 nothing [] e = refl
 nothing (x ∷ xs) e = absurd (omega arith)
-
-pub within : {w out after : List ℕ} {n : ℕ} → Wrote w n out after → n ≤ length after
-unfolding over
-within {w} {out} {after} {n} a = let l = length-append w (drop (length w) out) in omega (arith, a.bytes, ap length a.text, l)
-
-pub written : {w out after : List ℕ} {n : ℕ} → Wrote w n out after → take n after ≡ w
-unfolding over
-written {w} {out} a = rw (a.bytes, a.text, take-append_seam w (drop (length w) out))
 
 module _ (o : Outcome) (r : Refused) (before after : List ℕ) (a : Answers o (Err r) before after) where
   pub untouched : after ≡ before

@@ -1,8 +1,8 @@
 // Reads a schedule from standard input, runs it, and prints its listing, or one line that says why it was refused.
 #![tactic(auto)]
 
-ghost use Rattle.std.specs.Prelude.{IfOk, OnOk, IfSome, ◌≡◌, ◌≤◌, length, take};
-ghost use Rattle.std.specs.Io.KnownBytes.{Appends, Consumes};
+ghost use Rattle.std.specs.Prelude.{OnOk, IfSome, ◌≤◌, length};
+ghost use Rattle.std.specs.Io.KnownBytes.{Appends};
 ghost use Rattle.listing.specs.Write.{Wrote};
 ghost use Rattle.run.specs.Run.{run_of};
 ghost use Rattle.turns.specs.Shown.{budget, shown, printed, GoodIsRun};
@@ -19,23 +19,6 @@ const INPUT: usize = LONGEST + 1;
 const OUTPUT: usize = LINE_ROOM * 2048;
 
 const BUDGET: usize = 65535;
-
-// Reads until the buffer is full or the input ends, and answers how many bytes are read.
-fn fill<R: Read>(reader: &mut R, buf: &mut [u8]) -> io::Result<usize>
-    ensures within { IfOk result (λ n. n ≤ length buf.new) }
-    ensures front { IfOk result (λ n. IfSome (R.remaining reader.old) (λ input. take n buf.new ≡ take (length buf.old) input)) }
-    ensures consumed { IfOk result (λ n. Consumes (R.remaining reader.old) (R.remaining reader.new) (take n buf.new)) }
-{
-    let mut n = 0;
-    while n < buf.len() {
-        let more = reader.read(&mut buf[n..])?;
-        if more == 0 {
-            break;
-        }
-        n += more;
-    }
-    Ok(n)
-}
 
 // Runs the schedule, and writes what is printed of it over the front of `out`.
 fn show(schedule: &[u8], out: &mut [u8]) -> usize
@@ -55,7 +38,7 @@ fn run_all<R: Read, W: Write>(reader: &mut R, writer: &mut W) -> io::Result<()>
         Appends (W.contents writer.old) (W.contents writer.new) (printed input))) }
 {
     let mut schedule = [0; INPUT];
-    let n = fill(reader, &mut schedule)?;
+    let n = input::fill(reader, &mut schedule)?;
     let mut out = [0; OUTPUT];
     let bytes = show(&schedule[..n], &mut out);
     writer.write_all(&out[..bytes])

@@ -8,20 +8,20 @@ use Rattle.lamport.specs.Steps.{first}
 use Rattle.lamport.specs.declared.Message.{Message}
 use Rattle.words.specs.View.{listed}
 
-pub listed-length : (f : ℕ → Message) (k : ℕ) → length (listed f k) ≡ k
+pub listed-length : {A : Type 0} (f : ℕ → A) (k : ℕ) → length (listed f k) ≡ k
 unfolding listed
 listed-length f zero = refl
 listed-length f (suc k) = length-append (listed f k) (f k ∷ []) ∙ omega (arith, listed-length f k)
 
-pub listed_same : (f g : ℕ → Message) (k : ℕ) → ((i : ℕ) → i < k → f i ≡ g i) → listed f k ≡ listed g k
+pub listed_same : {A : Type 0} (f g : ℕ → A) (k : ℕ) → ((i : ℕ) → i < k → f i ≡ g i) → listed f k ≡ listed g k
 unfolding listed
 listed_same f g zero h = refl
 listed_same f g (suc k) h = rw (listed_same f g k (λ i l. h i (omega arith)), h k (omega arith))
 
-pub listed_cons : (f : ℕ → Message) (k : ℕ) → listed f (suc k) ≡ f 0 ∷ listed (λ i. f (suc i)) k
+pub listed_cons : {A : Type 0} (f : ℕ → A) (k : ℕ) → listed f (suc k) ≡ f 0 ∷ listed (λ i. f (suc i)) k
 unfolding listed
 listed_cons f zero = refl
-listed_cons f (suc k) = ap (λ (r : List Message). r ++ f (suc k) ∷ []) (listed_cons f k)
+listed_cons f (suc k) = ap (λ r. r ++ f (suc k) ∷ []) (listed_cons f k)
 
 pub listed-first : (f : ℕ → Message) (k : ℕ) → 0 < k → first (listed f k) ≡ f 0
 listed-first f zero h = absurd (omega arith)

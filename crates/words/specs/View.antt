@@ -5,7 +5,7 @@ use Rattle.lamport.specs.declared.Message.{Message}
 use Rattle.words.specs.Places.{most, chan, benches, capacity, clock, phase, entry, heard, count, kind, stamp, kind_of}
 
 -- f 0, f 1, .. f (k - 1)
-unfoldable pub listed : (ℕ → Message) → ℕ → List Message
+unfoldable pub listed : {A : Type 0} → (ℕ → A) → ℕ → List A
 listed f zero = []
 listed f (suc k) = listed f k ++ f k ∷ []
 

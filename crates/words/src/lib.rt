@@ -125,7 +125,8 @@ pub fn heard(t: &Words, p: Bench, q: Bench) -> u32
     hearing(t, p)[q.number]
 }
 
-fn channel_count(t: &Words, c: Channel) -> u32
+// How many messages are on channel c.
+pub fn channel_count(t: &Words, c: Channel) -> u32
     ensures { result ≡ count_of t.now c.number }
 {
     t[COUNTS + c.number]

@@ -29,6 +29,13 @@ pub struct Channel {
 }
 
 impl Channel {
+    pub fn new(number: usize) -> Channel
+        requires { number < most * most }
+        ensures { result.number ≡ number }
+    {
+        Channel { number }
+    }
+
     pub fn between(p: Bench, q: Bench) -> Channel
         ensures { result.number ≡ chan p.number q.number }
     {

@@ -1,4 +1,5 @@
-use Rattle.std.proofs.Common.{◌≤◌, ◌++◌, length, refl, arith, length-drop, length-take, length-append}
+use Rattle.std.proofs.Common.{◌≤◌, ◌++◌, length, refl, ap, arith, length-drop, length-take, length-append}
+use Rattle.lamport.specs.Counted.{Counted}
 use Rattle.listing.specs.Record.{end_text}
 use Rattle.listing.proofs.Laws.{lend, end_short}
 use Rattle.schedule.proofs.PartsLaws.{count-short}
@@ -24,13 +25,14 @@ overflow_add-result c =
 pub returns : goal.returns
 unfolding listing
 returns c =
+    let fresh-view = ap (λ (x : Counted). x.table) c.fresh-t.ensures in
     let ran = c.run_lines-ran in
     let exact = ran.ensures.exact in
     let small = ran.ensures.small in
-    let rs = records 1 c.args.budget (view c.fresh_table-t.result.words) (steps_in c.args.lines.now) in
+    let rs = records 1 c.args.budget (view c.fresh-t.result.lent.words) (steps_in c.args.lines.now) in
     let v = end_text ran.result.taken ran.result.refused in
     let fits : length (lines rs ++ v) ≤ length c.args.out.now =
     simp length-append
     (omega (arith, exact.wrote.bytes, end_short ran.result.taken ran.result.refused small.1.0 small.1.1, small.0, c.requires.room)) in
     let lent = lend (lines rs) v (lines rs ++ v) c.args.out.now refl fits ran.new.out ran.result.bytes exact.wrote in
-    rw (← c.fresh_table-t.ensures, ← exact.taken, ← exact.refusals) (lent.then c.put_end.result c.put_end.new.out c.put_end.ensures)
+    rw (← fresh-view, ← exact.taken, ← exact.refusals) (lent.then c.put_end.result c.put_end.new.out c.put_end.ensures)

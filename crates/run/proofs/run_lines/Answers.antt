@@ -58,14 +58,14 @@ loop-ran-preserved c =
     let cut = c.in-Some.ensures in
     let x = c.in-Some-Step.x in
     let turn = c.take_step-turn in
-    let table = view c.loop-ran.t.words in
+    let table = view c.loop-ran.t.lent.words in
     let v = record_text (record_of (ran.taken + 1) (answer table x) x (next table x)) in
     let fits : length (g.w ++ v) ≤ length c.args.out.now =
     simp length-append
     (omega (arith, g.wrote.bytes, turn.ensures.wrote.bytes, turn.ensures.short, g.room, count_cut cut, c.requires.room)) in
     let lent = lend g.w v (g.w ++ v) c.args.out.now refl fits c.loop-ran.out ran.bytes g.wrote in
     let says : line_of c.in-Some.line.now ≡ Some (L.Step x) = search rules in
-    go_on g (answer_number turn.result.answer) turn.result.bytes c.refused_one.result turn.new.t.words _ cut says
+    go_on g (answer_number turn.result.answer) turn.result.bytes c.refused_one.result turn.new.t.lent.words _ cut says
     c.loop-ran-test.true turn.ensures.answered turn.ensures.read c.refused_one.ensures.value c.refused_one.ensures.digit turn.ensures.short
     (lent.then turn.result.bytes turn.new.out turn.ensures.wrote)
 

@@ -1,5 +1,5 @@
 use Rattle.std.proofs.Common.{refl, sym, ◌∙◌}
-use Rattle.table.proofs.Stepping.{made}
+use Rattle.table.proofs.Making.{made}
 use Rattle.table.proofs.fresh.Goals as goal
 
 pub returns : goal.returns

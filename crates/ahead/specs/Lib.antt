@@ -1,0 +1,2 @@
+-- What must be believed: counts never decide by themselves.
+pub mod Ahead

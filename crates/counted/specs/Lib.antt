@@ -1,0 +1,3 @@
+-- What the entry points promise.
+pub mod Post
+pub mod One

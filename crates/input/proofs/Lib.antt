@@ -1,0 +1,3 @@
+-- Laws that the proofs share, here and in the programs that read their input whole.
+mod Reading
+pub mod Told
