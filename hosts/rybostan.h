@@ -2,8 +2,9 @@
  *
  * A pointer is never null, also where its length is 0, and points to as many
  * words or bytes as stated; a table and an output are lent to one call at a time,
- * and no two buffers of a call overlap. Beyond that each call takes every input,
- * and answers with 0 or a number for no. */
+ * and no two buffers of a call overlap, but for the two stamps that are compared,
+ * which are only read. Beyond that each call takes every input, and answers with 0
+ * or a number for no. */
 #ifndef RYBOSTAN_H
 #define RYBOSTAN_H
 
@@ -12,7 +13,7 @@
 #include <stdint.h>
 
 /* The words of a table, the most benches, and the most messages in a channel. */
-#define RYBOSTAN_WORDS 2258
+#define RYBOSTAN_WORDS 10514
 #define RYBOSTAN_MOST 8
 #define RYBOSTAN_SLOTS 16
 
@@ -22,6 +23,11 @@
 #define RYBOSTAN_PHASE(p) (10 + (p))
 #define RYBOSTAN_ENTRY(p, q) (18 + 8 * (p) + (q))
 #define RYBOSTAN_HEARD(p, q) (82 + 8 * (p) + (q))
+
+/* Where the counts of events stand: how many of bench q bench p knows of, and how
+ * many of bench a the message in slot i of the channel from p to q brings. */
+#define RYBOSTAN_COUNT(p, q) (2258 + 8 * (p) + (q))
+#define RYBOSTAN_BROUGHT(p, q, i, a) (2322 + 8 * (16 * (8 * (p) + (q)) + (i)) + (a))
 
 /* The phases. */
 #define RYBOSTAN_IDLE 0
@@ -38,7 +44,7 @@ enum rybostan_answer {
     RYBOSTAN_NOTHING_THERE = 5, /* carry on an empty channel */
     RYBOSTAN_NOT_YET = 6,       /* enter, and the entry rule isn't met */
     RYBOSTAN_CHANNEL_FULL = 7,  /* a message must be sent on a full channel */
-    RYBOSTAN_CLOCK_SPENT = 8,   /* a clock would pass 4294967295 */
+    RYBOSTAN_CLOCK_SPENT = 8,   /* a clock or a count would pass 4294967295 */
     RYBOSTAN_BAD_SIZES = 9,     /* benches not 1 to 8, or capacity not 1 to 16 */
     RYBOSTAN_BAD_LINE = 10,     /* a line of the schedule is none */
     RYBOSTAN_NO_ROOM = 11,      /* less than 32 bytes of output for each line */
@@ -57,6 +63,25 @@ uint32_t rybostan_carry(uint32_t *table, uint32_t sender, uint32_t receiver);
 uint32_t rybostan_enter(uint32_t *table, uint32_t bench);
 uint32_t rybostan_leave(uint32_t *table, uint32_t bench);
 uint32_t rybostan_mark(uint32_t *table, uint32_t bench);
+
+/* Writes a bench's counts over the eight words of `counts`: the stamp of its last event,
+ * which is the acknowledgement after a carried request, and all zero before any event.
+ * Gives 0; or 1 or 2, and then writes nothing. */
+uint32_t rybostan_counts(const uint32_t *table, uint32_t bench, uint32_t *counts);
+
+/* How one stamp stands to another: its event happened before the other's, and so may have
+ * influenced it; after it; it is the same; or none of these. */
+enum rybostan_order {
+    RYBOSTAN_BEFORE = 0,
+    RYBOSTAN_AFTER = 1,
+    RYBOSTAN_SAME = 2,
+    RYBOSTAN_NEITHER = 3
+};
+
+/* Compares two stamps of eight counts each, and gives an enum rybostan_order: a stamp is
+ * before another when no count of it is larger and some is smaller. Stamps tell of events
+ * only where both are of one table from its making on; any others are compared as well. */
+uint32_t rybostan_compare(const uint32_t *a, const uint32_t *b);
 
 /* 0 and the bytes written; or a refusal from 9 to 12 with its line, which is 0
  * for 11 and 12, and 0 bytes. */

@@ -1,8 +1,31 @@
 //! The functions of librybostan.a, as rybostan.h declares them.
 
-pub const WORDS: usize = 2258;
+// A host need not use all of it.
+#![allow(dead_code)]
+
+pub const WORDS: usize = 10514;
 
 pub type Table = [u32; WORDS];
+
+/// For each bench, how many of its events are known: the stamp of an event.
+pub type Counts = [u32; 8];
+
+/// Where the count of bench q's events stands that bench p knows of.
+pub const fn count(p: usize, q: usize) -> usize {
+    2258 + 8 * p + q
+}
+
+/// Where the count for bench a stands that the message in slot i of the channel from p to q brings.
+pub const fn brought(p: usize, q: usize, i: usize, a: usize) -> usize {
+    2322 + 8 * (16 * (8 * p + q) + i) + a
+}
+
+/// What `compare` gives: the first event happened before the second, after it, is the same, or
+/// none of these.
+pub const BEFORE: u32 = 0;
+pub const AFTER: u32 = 1;
+pub const SAME: u32 = 2;
+pub const NEITHER: u32 = 3;
 
 /// 0 and the bytes written; or a refusal with its line, which is 0 for 11 and 12, and 0 bytes.
 #[repr(C)]
@@ -13,7 +36,7 @@ pub struct Ran {
     pub bytes: usize,
 }
 
-// A table is lent whole, so these take every value that they can be given.
+// A table and a stamp are lent whole, so these take every value that they can be given.
 unsafe extern "C" {
     #[link_name = "rybostan_fresh"]
     pub safe fn fresh(table: &mut Table, benches: u32, capacity: u32, start: u32) -> u32;
@@ -29,6 +52,10 @@ unsafe extern "C" {
     pub safe fn leave(table: &mut Table, bench: u32) -> u32;
     #[link_name = "rybostan_mark"]
     pub safe fn mark(table: &mut Table, bench: u32) -> u32;
+    #[link_name = "rybostan_counts"]
+    pub safe fn counts(table: &Table, bench: u32, counts: &mut Counts) -> u32;
+    #[link_name = "rybostan_compare"]
+    pub safe fn compare(a: &Counts, b: &Counts) -> u32;
 
     fn rybostan_run(
         schedule: *const u8,

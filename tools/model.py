@@ -1,9 +1,10 @@
-"""An independent model of the rules in document 01, the exact rules.
+"""An independent model of the rules in document 01, the exact rules, with the counts.
 
-It prints what the case program crates/run_cases/src/main.rt has to print, and so
-makes that program's stored output:
+It prints what the case program crates/run_cases/src/main.rt has to print, and what
+the program readings has to print of a schedule, and so makes their stored output:
 
     python3 tools/model.py crates/run_cases/src/main.rt > crates/run_cases/stdout
+    python3 tools/model.py readings < crates/readings/stdin > crates/readings/stdout
 
 It is written from the rules and not from the Rattle code. Of the case program it
 takes the cases (names, schedules, budgets, rooms) and the form they are printed in.
@@ -13,11 +14,11 @@ import re
 import sys
 from collections import namedtuple
 
-LIMIT = 4294967295  # of a clock, and of a number in a schedule
+LIMIT = 4294967295  # of a clock, of a count, and of a number in a schedule
 LONGEST = 12288  # bytes of a schedule
 IDLE, WAITING, HOLDING = 0, 1, 2
 
-Message = namedtuple('Message', 'kind stamp')
+Message = namedtuple('Message', 'kind stamp counts')  # The sender's counts at the sending.
 Line = namedtuple('Line', 'word numbers')  # A step is a line whose numbers are benches.
 
 class Table:
@@ -30,6 +31,8 @@ class Table:
         # queue[p][q] is q's entry in p's queue; heard[p][q] is what p has heard from q.
         self.queue = [[0] * n for _ in range(n)]
         self.heard = [[0] * n for _ in range(n)]
+        # counts[p][q] is how many events of q bench p has counted, whatever the start clock.
+        self.counts = [[0] * n for _ in range(n)]
         # channel[p, q] leads from p to q, its oldest message first.
         self.channel = {(p, q): [] for p in range(n) for q in range(n) if p != q}
 
@@ -85,6 +88,20 @@ def clock_after(table, step):
     # Sending the acknowledgement is an event of its own.
     return received + 1 if message.kind == 'request' else received
 
+def counts_after(table, step):
+    """The counts of the step's bench."""
+    p = bench_of(step)
+    counts = list(table.counts[p])
+    if step.word == 'carry':
+        message = carried(table, step)
+        # VC2: the maximum is taken over the others, and the own count only goes up by 1.
+        for q in table.others(p):
+            counts[q] = max(counts[q], message.counts[q])
+        if message.kind == 'request':
+            counts[p] += 1  # VC1, of the acknowledgement.
+    counts[p] += 1
+    return counts
+
 def answer_to(table, step):
     """The first number that applies, else 0. It is never 1: a run's table is well formed."""
     if any(bench >= table.n for bench in step.numbers):
@@ -99,11 +116,11 @@ def answer_to(table, step):
         return 6
     if any(len(table.channel[c]) >= table.capacity for c in channels_sent_on(table, step)):
         return 7
-    if clock_after(table, step) > LIMIT:
+    if clock_after(table, step) > LIMIT or counts_after(table, step)[bench_of(step)] > LIMIT:
         return 8
     return 0
 
-# ---- the five steps, each given the clock after it
+# ---- the five steps, each given the clock after it; the bench's counts are those after it already
 
 def send_to_others(table, p, message):
     for q in table.others(p):
@@ -112,14 +129,14 @@ def send_to_others(table, p, message):
 def ask(table, clock, p):
     table.queue[p][p] = clock
     table.phase[p] = WAITING
-    send_to_others(table, p, Message('request', clock))
+    send_to_others(table, p, Message('request', clock, table.counts[p]))
 
 def carry(table, clock, p, q):
     message = table.channel[p, q].pop(0)
     table.heard[q][p] = max(table.heard[q][p], message.stamp)
     if message.kind == 'request':
         table.queue[q][p] = message.stamp
-        table.channel[q, p].append(Message('acknowledgement', clock))
+        table.channel[q, p].append(Message('acknowledgement', clock, table.counts[q]))
     elif message.kind == 'release':
         table.queue[q][p] = 0
 
@@ -129,10 +146,10 @@ def enter(table, clock, p):
 def leave(table, clock, p):
     table.queue[p][p] = 0
     table.phase[p] = IDLE
-    send_to_others(table, p, Message('release', clock))
+    send_to_others(table, p, Message('release', clock, table.counts[p]))
 
 def mark(table, clock, p):
-    pass  # Only the clock advances.
+    pass  # Only the clock and the count advance.
 
 STEPS = {'ask': ask, 'carry': carry, 'enter': enter, 'leave': leave, 'mark': mark}
 
@@ -140,8 +157,8 @@ def take(table, step):
     """Changes the table unless the step is refused, and returns the answer."""
     answer = answer_to(table, step)
     if answer == 0:
-        clock = clock_after(table, step)
-        table.clock[bench_of(step)] = clock
+        p, clock, counts = bench_of(step), clock_after(table, step), counts_after(table, step)
+        table.clock[p], table.counts[p] = clock, counts
         STEPS[step.word](table, clock, *step.numbers)
     return answer
 
@@ -189,6 +206,9 @@ def record(table, at, step, answer):
     p = bench_of(step)
     return [at, answer, p, table.clock[p], table.phase[p], place(table, p), holder(table)]
 
+def text_of(records):
+    return ''.join('\t'.join(map(str, fields)) + '\n' for fields in records)
+
 def run(schedule, budget, room):
     """The listing."""
     header, steps = read_schedule(schedule)
@@ -202,7 +222,25 @@ def run(schedule, budget, room):
             refused += 1
         records.append(record(table, at, step, answer))
     records.append(['end', len(records), refused])
-    return ''.join('\t'.join(map(str, fields)) + '\n' for fields in records)
+    return text_of(records)
+
+# ---- the readings of all steps: a line for each mark that is done
+
+def readings(schedule):
+    header, steps = read_schedule(schedule)
+    table = Table(*header.numbers)
+    records = []
+    for at, step in enumerate(steps, 1):
+        p = bench_of(step)
+        if take(table, step) == 0 and step.word == 'mark':
+            records.append([at, p, table.clock[p], *table.counts[p]])
+    return text_of(records)
+
+def print_readings(schedule):
+    try:
+        print(readings(schedule), end='')
+    except Refused as refused:
+        print('refused', *refused.args, sep='\t')
 
 # ---- the cases, read out of the case program
 LONG = b'table\t2\t4\t0\n' + b'ask\t0\n' * LONGEST  # `long` cuts it to a length.
@@ -256,9 +294,15 @@ def print_case(name, schedule, budget, room):
     print(f'{name}: {number} line {line} bytes {len(listing)} rest as before')
     print(listing if len(listing) <= 600 else f'digest {digest(listing)}\n', end='')
 
-if __name__ == '__main__':
-    with open(sys.argv[1], encoding='utf-8') as file:
+def print_cases(path):
+    with open(path, encoding='utf-8') as file:
         program = file.read()
     named = {name: ast.literal_eval(value) for name, value in re.findall(CONSTANT, program)}
     for case in cases_of('main', program, named):
         print_case(*case)
+
+if __name__ == '__main__':
+    if sys.argv[1] == 'readings':
+        print_readings(sys.stdin.buffer.read())
+    else:
+        print_cases(sys.argv[1])

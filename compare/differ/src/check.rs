@@ -1,6 +1,6 @@
 //! Both sides on the same input, and what they have done.
 
-use independent::{Step, WORDS, Words};
+use independent::{Counts, MOST, Step, WORDS, Words, place};
 use std::fmt::Write;
 
 /// What has been compared so far.
@@ -11,6 +11,12 @@ pub struct Tally {
     pub tables: u64,
     /// How many runs, steps and fresh tables gave each answer.
     pub answers: [u64; 13],
+    /// How many steps gave 8 for a count, and not for a clock.
+    pub spent_counts: u64,
+    /// How often a bench's counts were asked for.
+    pub counts: u64,
+    /// How many comparisons gave each order.
+    pub orders: [u64; 4],
 }
 
 impl Tally {
@@ -19,6 +25,11 @@ impl Tally {
         self.steps += other.steps;
         self.tables += other.tables;
         for (sum, more) in self.answers.iter_mut().zip(other.answers) {
+            *sum += more;
+        }
+        self.spent_counts += other.spent_counts;
+        self.counts += other.counts;
+        for (sum, more) in self.orders.iter_mut().zip(other.orders) {
             *sum += more;
         }
     }
@@ -93,10 +104,21 @@ impl Pair {
         }
         self.same(&format!("{step:?} with answer {one}"))?;
         tally.saw(one)?;
+        if one == 8 && self.done_without_own_count(step) {
+            tally.spent_counts += 1;
+        }
         if one != 0 && self.library != self.given {
             return Err(self.show(&format!("{step:?} with answer {one} has changed the table")));
         }
         Ok(one)
+    }
+
+    /// Whether a refused step would be done if its bench's own count were 0.
+    fn done_without_own_count(&self, step: Step) -> bool {
+        let mut words = self.given.words;
+        let p = step.bench() as usize;
+        words[place::counts(p) + p] = 0;
+        independent::step_words(&mut words, step) == 0
     }
 
     /// A step on both sides that is then taken back.
@@ -124,6 +146,35 @@ impl Pair {
             return Err(self.show(&format!("well formed: library {one}, independent {other}")));
         }
         self.same("the test of well-formedness")?;
+        Ok(one)
+    }
+
+    /// A bench's counts on both sides: the answer.
+    pub fn counts(&self, p: u32, tally: &mut Tally) -> Result<u32, String> {
+        const AROUND: u32 = 0xfeed_beef;
+        let (mut one_row, mut other_row) = ([AROUND; 3 * MOST], [AROUND; 3 * MOST]);
+        let one = linked::counts(&self.library.words, p, inside(&mut one_row));
+        let other =
+            independent::counts_in_words(&self.independent.words, p, inside(&mut other_row));
+        tally.counts += 1;
+        let what = format!("counts of {p}");
+        if (one, one_row) != (other, other_row) {
+            return Err(self.show(&format!(
+                "{what}: library {one} {one_row:x?}, independent {other} {other_row:x?}"
+            )));
+        }
+        self.same(&what)?;
+        if self.library != self.given {
+            return Err(self.show(&format!("{what} has changed the table")));
+        }
+        let mut asked = [AROUND; 3 * MOST];
+        if one == 0 {
+            let row = &self.given.words[place::counts(p as usize)..][..MOST];
+            inside(&mut asked).copy_from_slice(row);
+        }
+        if one_row != asked {
+            return Err(self.show(&format!("{what} with answer {one}: {one_row:x?}")));
+        }
         Ok(one)
     }
 
@@ -176,6 +227,24 @@ impl Pair {
         }
         text
     }
+}
+
+/// The middle third.
+fn inside(row: &mut [u32; 3 * MOST]) -> &mut Counts {
+    row[MOST..].first_chunk_mut().expect("a row's eight words")
+}
+
+/// Two stamps on both sides: the order's number.
+pub fn compare(a: &Counts, b: &Counts, tally: &mut Tally) -> Result<u32, String> {
+    let one = linked::compare(a, b);
+    let other = independent::compare(a, b) as u32;
+    if one != other {
+        return Err(format!(
+            "{a:?} and {b:?}: library {one}, independent {other}"
+        ));
+    }
+    tally.orders[one as usize] += 1;
+    Ok(one)
 }
 
 /// The bytes on either side of an output.

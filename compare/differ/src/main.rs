@@ -6,7 +6,9 @@ mod tables;
 
 use check::{Outputs, Tally};
 use material::Dice;
+use std::num::NonZeroUsize;
 use std::process::ExitCode;
+use std::thread;
 use std::time::Instant;
 
 const USAGE: &str = "differ [--seed N] [--rounds N]
@@ -23,7 +25,7 @@ struct Family {
     case: Case,
 }
 
-const FAMILIES: [Family; 12] = [
+const FAMILIES: [Family; 13] = [
     Family {
         name: "random schedules",
         cases: 100,
@@ -84,6 +86,11 @@ const FAMILIES: [Family; 12] = [
         cases: 200,
         case: |dice, _, tally| tables::random_words(dice, tally),
     },
+    Family {
+        name: "stamps compared",
+        cases: 1000,
+        case: |dice, _, tally| tables::stamps(dice, tally),
+    },
 ];
 
 struct Options {
@@ -134,18 +141,21 @@ fn main() -> ExitCode {
     ExitCode::SUCCESS
 }
 
-/// All the cases of a family. Each has dice of its own, so that it can be had again.
+/// All the cases of a family, dealt out to the processors.
 fn family_cases(number: u64, family: &Family, options: &Options) -> Result<Tally, String> {
-    let mut tally = Tally::default();
-    let mut outputs = Outputs::default();
     let cases = family.cases * options.rounds;
-    for case in 0..cases {
-        let seed = options.seed ^ (number << 56) ^ (case << 24);
-        (family.case)(&mut Dice::new(seed), &mut outputs, &mut tally).map_err(|difference| {
-            let Options { seed, .. } = options;
-            format!("{}, seed {seed}, case {case}:\n{difference}", family.name)
-        })?;
-    }
+    let hands = thread::available_parallelism().map_or(1, NonZeroUsize::get);
+    let mut tally = Tally::default();
+    thread::scope(|scope| {
+        let hands: Vec<_> = (0..hands)
+            .map(|hand| (hand as u64..cases).step_by(hands))
+            .map(|cases| scope.spawn(|| some_cases(number, family, options, cases)))
+            .collect();
+        for hand in hands {
+            tally.add(&hand.join().expect("a difference is no panic")?);
+        }
+        Ok::<(), String>(())
+    })?;
     let Tally {
         runs,
         steps,
@@ -156,6 +166,25 @@ fn family_cases(number: u64, family: &Family, options: &Options) -> Result<Tally
         "{:24} {cases:9} {runs:9} {steps:10} {tables:9}",
         family.name
     );
+    Ok(tally)
+}
+
+/// Some of a family's cases. Each has dice of its own, so that it can be had again.
+fn some_cases(
+    number: u64,
+    family: &Family,
+    options: &Options,
+    cases: impl Iterator<Item = u64>,
+) -> Result<Tally, String> {
+    let mut tally = Tally::default();
+    let mut outputs = Outputs::default();
+    for case in cases {
+        let seed = options.seed ^ (number << 56) ^ (case << 24);
+        (family.case)(&mut Dice::new(seed), &mut outputs, &mut tally).map_err(|difference| {
+            let Options { seed, .. } = options;
+            format!("{}, seed {seed}, case {case}:\n{difference}", family.name)
+        })?;
+    }
     Ok(tally)
 }
 
@@ -171,4 +200,8 @@ fn report(total: &Tally) {
     for (answer, count) in total.answers.iter().enumerate() {
         println!("{answer:4} {count:12}");
     }
+    println!("Of the 8s, {} were for a count.", total.spent_counts);
+    println!("Counts of a bench asked for {} times.", total.counts);
+    let [before, after, same, neither] = total.orders;
+    println!("Comparisons: before {before}, after {after}, same {same}, neither {neither}.");
 }

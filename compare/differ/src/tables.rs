@@ -1,7 +1,7 @@
 //! The families of tables in lent words.
 
-use crate::check::{Pair, Tally};
-use independent::{Step, Table, WORDS, Words, place};
+use crate::check::{Pair, Tally, compare};
+use independent::{Counts, MOST, Order, Step, Table, WORDS, Words, place};
 use material::{Dice, hostile_step, random_step, reached};
 
 type Outcome = Result<(), String>;
@@ -39,9 +39,12 @@ pub fn fresh(dice: &mut Dice, tally: &mut Tally) -> Outcome {
 
 /// Walks of steps on lent words, beside a table that isn't laid out in words.
 pub fn walks(dice: &mut Dice, tally: &mut Tally) -> Outcome {
-    let mut table = reached(dice);
     let mut words = [0; WORDS];
-    table.write_words(&mut words);
+    reached(dice).write_words(&mut words);
+    if dice.percent(50) {
+        fill_in_counts(&mut words, dice);
+    }
+    let mut table = Table::from_words(&words).ok_or("a reached table can't be read")?;
     let mut pair = Pair::new(&words);
     let n = table.benches().len();
     for _ in 0..200 {
@@ -57,6 +60,7 @@ pub fn walks(dice: &mut Dice, tally: &mut Tally) -> Outcome {
         if beside != answer || words != *pair.words() {
             return Err(format!("{step:?}: {answer} on words, {beside} beside"));
         }
+        pair.counts(dice.bench(MOST + 1), tally)?;
     }
     if !pair.well_formed(tally)? {
         return Err("a step has led out of the well-formed tables".to_string());
@@ -71,7 +75,7 @@ pub fn damaged(dice: &mut Dice, tally: &mut Tally) -> Outcome {
     let mut pair = Pair::new(&words);
     for place in 0..WORDS {
         let old = words[place];
-        for word in [
+        let damages = [
             0,
             1,
             2,
@@ -82,7 +86,14 @@ pub fn damaged(dice: &mut Dice, tally: &mut Tally) -> Outcome {
             old.wrapping_sub(1),
             u32::MAX,
             dice.word(),
-        ] {
+        ];
+        // Most words are counts that messages bring, where one word is as bad as another.
+        let damages = if place < place::brought(0, 0, 0) {
+            &damages[..]
+        } else {
+            &[dice.pick(&damages)]
+        };
+        for &word in damages {
             pair.damage(place, word);
             judge(&mut pair, dice, tally)?;
         }
@@ -120,15 +131,17 @@ pub fn damaged_together(dice: &mut Dice, tally: &mut Tally) -> Outcome {
 
 fn any_place(dice: &mut Dice, n: usize) -> usize {
     let (p, q) = (dice.below(n), dice.below(n));
-    match dice.below(9) {
+    match dice.below(11) {
         0 => dice.below(WORDS),
         1 => dice.below(2),
         2 => place::clock(p),
         3 => place::phase(p),
         4 => place::entry(p, q),
         5 => place::heard(p, q),
-        6 => place::count(p, q),
+        6 => place::length(p, q),
         7 => place::slot(p, q, dice.below(3)),
+        8 => place::counts(p) + dice.below(MOST),
+        9 => place::brought(p, q, dice.below(3)) + dice.below(MOST),
         _ => place::slot(p, q, dice.below(3)) + 1,
     }
 }
@@ -186,11 +199,31 @@ fn fill_in(words: &mut Words, dice: &mut Dice) {
             } else {
                 dice.below(capacity + 1)
             };
-            words[place::count(p, q)] = count as u32;
+            words[place::length(p, q)] = count as u32;
             for slot in 0..count {
                 let slot = place::slot(p, q, slot);
                 words[slot] = dice.below(3) as u32;
                 words[slot + 1] = dice.pick(stamps);
+            }
+        }
+    }
+    fill_in_counts(words, dice);
+}
+
+/// Makes up all counts, of benches and of messages: small ones, ones near the end, or both.
+fn fill_in_counts(words: &mut Words, dice: &mut Dice) {
+    let n = words[place::N] as usize;
+    let (near, end) = (dice.pick(&[2, 4, 40]), dice.pick(&[0, 20, 80]));
+    let mut rows: Vec<usize> = (0..n).map(place::counts).collect();
+    for (p, q) in (0..n * n).map(|pair| (pair / n, pair % n)) {
+        let length = words[place::length(p, q)] as usize;
+        rows.extend((0..length).map(|slot| place::brought(p, q, slot)));
+    }
+    for row in rows {
+        for count in &mut words[row..][..n] {
+            *count = dice.below(near) as u32;
+            if dice.percent(end) {
+                *count = u32::MAX - *count;
             }
         }
     }
@@ -222,6 +255,9 @@ fn judge(pair: &mut Pair, dice: &mut Dice, tally: &mut Tally) -> Outcome {
     let good = pair.well_formed(tally)?;
     let n = pair.words()[place::N].clamp(1, 8) as usize;
     let (p, q) = (dice.bench(n), dice.bench(n + 1));
+    if (pair.counts(dice.bench(MOST + 1), tally)? == 1) == good {
+        return Err(format!("counts: well formed is {good}"));
+    }
     for step in [
         Step::Ask(p),
         Step::Carry { from: p, to: q },
@@ -250,8 +286,38 @@ fn all_steps(pair: &mut Pair, dice: &mut Dice, tally: &mut Tally) -> Outcome {
             pair.try_step(Step::Carry { from: p, to: q }, tally)?;
         }
     }
+    for p in 0..=MOST as u32 {
+        pair.counts(p, tally)?;
+    }
+    pair.counts(dice.pick(&[9, 256, 1 << 31, u32::MAX]), tally)?;
     for _ in 0..4 {
         pair.try_step(hostile_step(dice, n.clamp(1, 8) as usize), tally)?;
+    }
+    Ok(())
+}
+
+/// Stamps compared both ways: with any other, with an equal one, and with one that is nowhere larger.
+pub fn stamps(dice: &mut Dice, tally: &mut Tally) -> Outcome {
+    let any = [dice.word(), dice.word(), dice.word()];
+    let counts = dice.pick(&[[0, 0, 1], [0, 1 << 31, u32::MAX], any]);
+    let a: Counts = std::array::from_fn(|_| dice.pick(&counts));
+    let unlike: Counts = std::array::from_fn(|_| dice.pick(&counts));
+    let lowered = a.map(|count| if dice.percent(20) { count / 2 } else { count });
+    for b in [unlike, a, lowered] {
+        let (there, back) = (compare(&a, &b, tally)?, compare(&b, &a, tally)?);
+        let opposite = matches!((there, back), (0, 1) | (1, 0) | (2, 2) | (3, 3));
+        if !opposite || (there == 2) != (a == b) {
+            return Err(format!("{a:?} and {b:?}: {there}, and back {back}"));
+        }
+    }
+    let asked = if lowered == a {
+        Order::Same
+    } else {
+        Order::After
+    };
+    let order = compare(&a, &lowered, tally)?;
+    if order != asked as u32 {
+        return Err(format!("{a:?} and {lowered:?}: {order}"));
     }
     Ok(())
 }

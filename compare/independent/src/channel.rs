@@ -1,3 +1,4 @@
+use crate::counts::Counts;
 use std::num::NonZeroU32;
 
 /// The most messages that a channel can be made for.
@@ -23,36 +24,47 @@ pub struct Message {
 #[derive(Clone, Copy, Debug, Default)]
 pub struct Channel {
     slots: [Option<Message>; SLOTS],
+    /// What the message in each slot brings; the rest is left over.
+    brought: [Counts; SLOTS],
     first: usize,
-    count: usize,
+    length: usize,
 }
 
 impl Channel {
-    pub fn count(&self) -> usize {
-        self.count
+    pub fn length(&self) -> usize {
+        self.length
     }
 
     pub fn oldest(&self) -> Option<Message> {
         self.slots[self.first]
     }
 
+    /// The counts that the oldest message brings, if there is one.
+    pub fn brought(&self) -> &Counts {
+        &self.brought[self.first]
+    }
+
     /// Takes the oldest message out, if there is one.
     pub fn take(&mut self) -> Option<Message> {
         let taken = self.slots[self.first].take()?;
         self.first = (self.first + 1) % SLOTS;
-        self.count -= 1;
+        self.length -= 1;
         Some(taken)
     }
 
     /// Puts a message behind the others. The sender has made sure that there is room.
-    pub fn send(&mut self, message: Message) {
-        debug_assert!(self.count < SLOTS);
-        self.slots[(self.first + self.count) % SLOTS] = Some(message);
-        self.count += 1;
+    pub fn send(&mut self, message: Message, counts: &Counts) {
+        debug_assert!(self.length < SLOTS);
+        let slot = (self.first + self.length) % SLOTS;
+        self.slots[slot] = Some(message);
+        self.brought[slot] = *counts;
+        self.length += 1;
     }
 
-    /// The messages, oldest first.
-    pub fn messages(&self) -> impl Iterator<Item = Message> {
-        (0..self.count).filter_map(|slot| self.slots[(self.first + slot) % SLOTS])
+    /// The messages with what they bring, oldest first.
+    pub fn messages(&self) -> impl Iterator<Item = (Message, &Counts)> {
+        (0..self.length)
+            .map(|slot| (self.first + slot) % SLOTS)
+            .filter_map(|slot| Some((self.slots[slot]?, &self.brought[slot])))
     }
 }

@@ -1,6 +1,7 @@
 //! The five steps, for a table however it is kept.
 
 use crate::channel::{Kind, Message, Stamp};
+use crate::counts::Counts;
 use crate::refusal::Refusal;
 use crate::table::{Phase, Step};
 
@@ -11,6 +12,8 @@ pub trait Store {
 
     fn clock(&self, p: usize) -> u32;
     fn set_clock(&mut self, p: usize, clock: u32);
+    fn counts(&self, p: usize) -> &Counts;
+    fn counts_mut(&mut self, p: usize) -> &mut Counts;
     fn phase(&self, p: usize) -> Phase;
     fn set_phase(&mut self, p: usize, phase: Phase);
 
@@ -21,11 +24,14 @@ pub trait Store {
     fn heard(&self, p: usize, q: usize) -> Option<Stamp>;
     fn set_heard(&mut self, p: usize, q: usize, heard: Option<Stamp>);
 
-    fn count(&self, from: usize, to: usize) -> usize;
+    /// How many messages are in transit.
+    fn length(&self, from: usize, to: usize) -> usize;
     fn oldest(&self, from: usize, to: usize) -> Option<Message>;
+    /// The counts that the oldest message brings, if there is one.
+    fn brought(&self, from: usize, to: usize) -> &Counts;
     /// Takes the oldest message out.
     fn take(&mut self, from: usize, to: usize);
-    /// Puts a message behind the others; there is room for it.
+    /// Puts a message behind the others; there is room for it. It brings its sender's counts.
     fn send(&mut self, from: usize, to: usize, message: Message);
 }
 
@@ -53,8 +59,7 @@ fn ask(table: &mut impl Store, p: u32) -> Result<(), Refusal> {
     let p = bench(table, p)?;
     admitted(table, p, Phase::Idle)?;
     room_to_all(table, p)?;
-    let stamp = after(table.clock(p))?;
-    table.set_clock(p, stamp.get());
+    let stamp = event(table, p)?;
     table.set_phase(p, Phase::Waiting);
     table.set_entry(p, p, Some(stamp));
     send_to_all(table, p, Kind::Request, stamp);
@@ -71,12 +76,20 @@ fn carry(table: &mut impl Store, from: u32, to: u32) -> Result<(), Refusal> {
         room(table, q, p)?;
     }
     let received = after(table.clock(q).max(stamp.get()))?;
+    let counted = after(table.counts(q)[q])?;
     // The acknowledgement is an event of its own, after the receipt.
-    let last = match kind {
-        Kind::Request => after(received.get())?,
-        Kind::Acknowledgement | Kind::Release => received,
+    let (last, own) = match kind {
+        Kind::Request => (after(received.get())?, after(counted.get())?),
+        Kind::Acknowledgement | Kind::Release => (received, counted),
     };
 
+    let brought = *table.brought(p, q);
+    let counts = table.counts_mut(q);
+    for (count, brought) in counts.iter_mut().zip(brought) {
+        *count = brought.max(*count);
+    }
+    // Its own events a bench counts itself, whatever others say.
+    counts[q] = own.get();
     table.take(p, q);
     table.set_clock(q, last.get());
     table.set_heard(q, p, table.heard(q, p).max(Some(stamp)));
@@ -98,8 +111,7 @@ fn enter(table: &mut impl Store, p: u32) -> Result<(), Refusal> {
     if !may_enter(table, p) {
         return Err(Refusal::EntryRule);
     }
-    let stamp = after(table.clock(p))?;
-    table.set_clock(p, stamp.get());
+    event(table, p)?;
     table.set_phase(p, Phase::Holding);
     Ok(())
 }
@@ -108,8 +120,7 @@ fn leave(table: &mut impl Store, p: u32) -> Result<(), Refusal> {
     let p = bench(table, p)?;
     admitted(table, p, Phase::Holding)?;
     room_to_all(table, p)?;
-    let stamp = after(table.clock(p))?;
-    table.set_clock(p, stamp.get());
+    let stamp = event(table, p)?;
     table.set_phase(p, Phase::Idle);
     table.set_entry(p, p, None);
     send_to_all(table, p, Kind::Release, stamp);
@@ -118,8 +129,7 @@ fn leave(table: &mut impl Store, p: u32) -> Result<(), Refusal> {
 
 fn mark(table: &mut impl Store, p: u32) -> Result<(), Refusal> {
     let p = bench(table, p)?;
-    let stamp = after(table.clock(p))?;
-    table.set_clock(p, stamp.get());
+    event(table, p)?;
     Ok(())
 }
 
@@ -141,9 +151,18 @@ fn admitted(table: &impl Store, p: usize, phase: Phase) -> Result<(), Refusal> {
     }
 }
 
-/// A clock that has advanced by one.
-fn after(clock: u32) -> Result<Stamp, Refusal> {
-    Stamp::MIN.checked_add(clock).ok_or(Refusal::ClockSpent)
+/// An event that is no receipt, unless the clock or the count is spent: its stamp.
+fn event(table: &mut impl Store, p: usize) -> Result<Stamp, Refusal> {
+    let stamp = after(table.clock(p))?;
+    let own = after(table.counts(p)[p])?;
+    table.set_clock(p, stamp.get());
+    table.counts_mut(p)[p] = own.get();
+    Ok(stamp)
+}
+
+/// A clock or a count that has advanced by one.
+fn after(figure: u32) -> Result<Stamp, Refusal> {
+    Stamp::MIN.checked_add(figure).ok_or(Refusal::ClockSpent)
 }
 
 fn others<S: Store>(table: &S, p: usize) -> impl Iterator<Item = usize> + use<S> {
@@ -151,7 +170,7 @@ fn others<S: Store>(table: &S, p: usize) -> impl Iterator<Item = usize> + use<S>
 }
 
 fn room(table: &impl Store, from: usize, to: usize) -> Result<(), Refusal> {
-    if table.count(from, to) < table.capacity() {
+    if table.length(from, to) < table.capacity() {
         Ok(())
     } else {
         Err(Refusal::FullChannel)

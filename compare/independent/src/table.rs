@@ -1,4 +1,5 @@
 use crate::channel::{Channel, Message, SLOTS, Stamp};
+use crate::counts::Counts;
 use crate::refusal::Refusal;
 use crate::rules::{self, Store};
 
@@ -37,6 +38,7 @@ impl Step {
 #[derive(Clone, Copy, Debug, Default)]
 pub struct Bench {
     pub clock: u32,
+    pub counts: Counts,
     pub phase: Phase,
     /// This bench's own queue: the stamp of each bench's request.
     pub queue: [Option<Stamp>; MOST],
@@ -51,8 +53,8 @@ pub struct Table {
     pub(crate) n: usize,
     /// Those from n on stay as they were made.
     pub(crate) benches: [Bench; MOST],
-    /// By sender, then by receiver.
-    pub(crate) channels: [[Channel; MOST]; MOST],
+    /// By sender, then by receiver. They take room for counts, so there are none of absent senders.
+    pub(crate) channels: Vec<[Channel; MOST]>,
 }
 
 impl Table {
@@ -70,7 +72,7 @@ impl Table {
             n,
             capacity,
             benches: Default::default(),
-            channels: Default::default(),
+            channels: vec![Default::default(); n],
         }
     }
 
@@ -114,6 +116,14 @@ impl Store for Table {
         self.benches[p].clock = clock;
     }
 
+    fn counts(&self, p: usize) -> &Counts {
+        &self.benches[p].counts
+    }
+
+    fn counts_mut(&mut self, p: usize) -> &mut Counts {
+        &mut self.benches[p].counts
+    }
+
     fn phase(&self, p: usize) -> Phase {
         self.benches[p].phase
     }
@@ -138,12 +148,16 @@ impl Store for Table {
         self.benches[p].heard[q] = heard;
     }
 
-    fn count(&self, from: usize, to: usize) -> usize {
-        self.channels[from][to].count()
+    fn length(&self, from: usize, to: usize) -> usize {
+        self.channels[from][to].length()
     }
 
     fn oldest(&self, from: usize, to: usize) -> Option<Message> {
         self.channels[from][to].oldest()
+    }
+
+    fn brought(&self, from: usize, to: usize) -> &Counts {
+        self.channels[from][to].brought()
     }
 
     fn take(&mut self, from: usize, to: usize) {
@@ -151,7 +165,7 @@ impl Store for Table {
     }
 
     fn send(&mut self, from: usize, to: usize, message: Message) {
-        self.channels[from][to].send(message);
+        self.channels[from][to].send(message, &self.benches[from].counts);
     }
 }
 

@@ -1,6 +1,9 @@
-//! The examples of the scope document.
+//! The examples of the scope document, and the counts of change request #106.
 
-use independent::{Phase, Refusal, Step, Table, WORDS, fresh_words, run, step_words, well_formed};
+use independent::{
+    Counts, Order, Phase, Refusal, Step, Table, WORDS, Words, compare, counts_in_words,
+    fresh_words, place, run, step_words, well_formed,
+};
 
 const RUN: &str = "\
 table 2 4 0
@@ -315,7 +318,14 @@ fn words_that_are_no_table() {
         (211 + 32, 0),  // stamp 0
         (212 + 32, 1),  // a kind in an unused slot
         (213 + 32, 1),  // a stamp in an unused slot
-        (WORDS - 1, 1), // the last slot of all
+        (2257, 1),      // the last slot of all
+        (2258 + 2, 1),  // a count for no bench
+        (2258 + 16, 1), // a count of no bench
+        (2322, 1),      // counts in a channel to itself
+        (2450 + 2, 1),  // counts for no bench in a message
+        (2450 + 8, 1),  // counts in an unused slot
+        (2578, 1),      // counts in a channel to no bench
+        (WORDS - 1, 1), // the last count of all
     ] {
         let mut damaged = words;
         damaged[place] = word;
@@ -324,5 +334,92 @@ fn words_that_are_no_table() {
         let before = damaged;
         assert_eq!(step_words(&mut damaged, Step::Mark(0)), 1);
         assert_eq!(damaged, before);
+        // Before it is looked whether the bench is there.
+        let mut counts = [7; 8];
+        assert_eq!(counts_in_words(&damaged, 8, &mut counts), 1);
+        assert_eq!(counts, [7; 8]);
+    }
+    for place in [2258, 2259, 2266, 2267, 2450, 2451] {
+        let mut other = words;
+        other[place] = u32::MAX;
+        assert!(well_formed(&other), "{place}");
+    }
+}
+
+/// A bench's counts, for benches 0 and 1.
+fn counts(words: &Words, p: u32) -> [u32; 2] {
+    let mut counts: Counts = [7; 8];
+    assert_eq!(counts_in_words(words, p, &mut counts), 0);
+    assert_eq!(counts[2..], [0; 6]);
+    [counts[0], counts[1]]
+}
+
+#[test]
+fn events_are_counted() {
+    // Counts start at 0 whatever the start clock.
+    let mut words = [7; WORDS];
+    fresh_words(&mut words, 2, 4, 100);
+    for (step, p, after) in [
+        (Step::Ask(0), 0, [1, 0]),
+        (Step::Mark(0), 0, [2, 0]),
+        // The request was sent before the mark; its receipt and the acknowledgement are two events.
+        (carry(0, 1), 1, [1, 2]),
+        (Step::Mark(1), 1, [1, 3]),
+        (carry(1, 0), 0, [3, 2]),
+        (Step::Enter(0), 0, [4, 2]),
+        (Step::Leave(0), 0, [5, 2]),
+        (Step::Ask(0), 0, [6, 2]),
+        (carry(0, 1), 1, [5, 4]),
+    ] {
+        assert_eq!(step_words(&mut words, step), 0);
+        assert_eq!(counts(&words, p), after, "{step:?}");
+    }
+    // The second request has moved up to the release's slot, with its counts.
+    assert_eq!(
+        words[place::brought(0, 1, 0)..][..8],
+        [6, 2, 0, 0, 0, 0, 0, 0]
+    );
+    assert_eq!(words[place::brought(0, 1, 1)..][..8], [0; 8]);
+    let mut untouched = [7; 8];
+    assert_eq!(counts_in_words(&words, 2, &mut untouched), 2);
+    assert_eq!(untouched, [7; 8]);
+}
+
+#[test]
+fn spent_counts() {
+    let mut words = [0; WORDS];
+    fresh_words(&mut words, 2, 4, 0);
+    step_words(&mut words, Step::Ask(0));
+    let own = place::counts(1) + 1;
+    for (count, step, answer) in [
+        (u32::MAX, Step::Mark(1), 8),
+        (u32::MAX - 1, Step::Mark(1), 0),
+        (u32::MAX - 1, carry(0, 1), 8),
+        (u32::MAX - 2, carry(0, 1), 0),
+    ] {
+        let mut words = words;
+        words[own] = count;
+        let before = words;
+        assert_eq!(step_words(&mut words, step), answer, "{count} {step:?}");
+        assert_eq!(words == before, answer == 8);
+    }
+    // Of another's events any count is taken over, and nobody else's word for one's own.
+    words[place::brought(0, 1, 0)] = u32::MAX;
+    words[place::brought(0, 1, 0) + 1] = u32::MAX;
+    assert_eq!(step_words(&mut words, carry(0, 1)), 0);
+    assert_eq!(counts(&words, 1), [u32::MAX, 2]);
+}
+
+#[test]
+fn orders() {
+    for (a, b, there, back) in [
+        ([1, 3], [5, 5], Order::Before, Order::After),
+        ([1, 3], [1, 4], Order::Before, Order::After),
+        ([0, 0], [0, u32::MAX], Order::Before, Order::After),
+        ([1, 3], [1, 3], Order::Same, Order::Same),
+        ([1, 3], [4, 2], Order::Neither, Order::Neither),
+    ] {
+        let [a, b] = [a, b].map(|[p, q]| [0, 0, p, 0, 0, 0, 0, q]);
+        assert_eq!((compare(&a, &b), compare(&b, &a)), (there, back));
     }
 }

@@ -3,7 +3,7 @@
 #[path = "../../../hosts/rybostan.rs"]
 mod rybostan;
 
-use independent::{Step, Words};
+use independent::{Counts, Step, Words};
 
 pub fn fresh(words: &mut Words, n: u32, capacity: u32, start: u32) -> u32 {
     rybostan::fresh(words, n, capacity, start)
@@ -21,6 +21,15 @@ pub fn step(words: &mut Words, step: Step) -> u32 {
         Step::Leave(p) => rybostan::leave(words, p),
         Step::Mark(p) => rybostan::mark(words, p),
     }
+}
+
+pub fn counts(words: &Words, p: u32, counts: &mut Counts) -> u32 {
+    rybostan::counts(words, p, counts)
+}
+
+/// An order's number.
+pub fn compare(a: &Counts, b: &Counts) -> u32 {
+    rybostan::compare(a, b)
 }
 
 /// The answer, its line, and the bytes written.

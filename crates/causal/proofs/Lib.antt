@@ -8,4 +8,5 @@ pub mod Steps
 pub mod Run
 pub mod Told
 pub mod Shown
+pub mod Placed
 pub mod Witness

@@ -36,7 +36,8 @@ second Request e = e ∷ []
 second Ack e = []
 second Release e = []
 
--- the events of a step that is done: one at its bench, of a carry at the receiver; of a carried request two, the receipt and the acknowledgement
+-- the events of a step that is done: one at its bench, of a carry at the receiver; of a carried request two, the receipt and the acknowledgement.
+-- The receipt of a request has counts that no table shows: those of the acknowledgement, but with the own count one less
 abbrev pub events_of : Counted → Step → List Stamped
 events_of s (Ask p) = stamped p tells (counts_then s (Ask p)) ∷ []
 events_of s (Carry p q) =

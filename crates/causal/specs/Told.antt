@@ -1,9 +1,10 @@
 -- What the stamps of two events of a list say, and what happened.
-use Rattle.std.specs.Prelude.{ℕ, ◌<◌, ◌≡◌, ◌≢◌, ◌↔◌, true, List, [], ◌∷◌, length, get_or}
+use Rattle.std.specs.Prelude.{ℕ, ◌<◌, ◌≡◌, ◌≢◌, ◌↔◌, true, List, [], ◌∷◌, ◌++◌, length, get_or}
 use Rattle.lamport.specs.Table.{sizes_ok}
-use Rattle.lamport.specs.Counted.{Counted, counted_fresh, counted_answer, counted_next}
+use Rattle.lamport.specs.Counted.{Counted, counted_fresh, counts_then, counted_answer, counted_next, counted_after}
 use Rattle.lamport.specs.Steps.{actor}
 use Rattle.lamport.specs.declared.Step.{Step}
+use Rattle.lamport.specs.declared.Step.TheVariants.{Mark}
 use Rattle.stamps.specs.Compare.{comparison}
 use Rattle.stamps.specs.declared.Comparison.{Comparison}
 use Rattle.stamps.specs.declared.Comparison.TheVariants.{Before, After, Same, Neither}
@@ -49,3 +50,9 @@ LastHas (e ∷ f ∷ es) v = LastHas (f ∷ es) v
 -- the counts that the table shows of the step's bench, after a step that is done, are those of the step's last event
 abbrev pub CountsShown : Type 0
 CountsShown = (s : Counted) (k : Step) → counted_answer s k ≡ 0 → LastHas (events_of s k) ((counted_next s k).counts (actor k))
+
+-- after the steps ks a reading is marked, whatever steps ls follow: its event is the one behind those of ks, with the counts that its bench has then
+abbrev pub ReadingPlaced : Type 0
+ReadingPlaced =
+    (s : Counted) (ks ls : List Step) (p : ℕ) → counted_answer (counted_after s ks) (Mark p) ≡ 0 →
+    event_at (events s (ks ++ Mark p ∷ ls)) (length (events s ks)) ≡ stamped p alone (counts_then (counted_after s ks) (Mark p))

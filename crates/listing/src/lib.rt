@@ -76,7 +76,7 @@ fn put_field(out: &mut [u8], cell: Option<usize>, behind: u8) -> usize
 
 // Fields with tabs between them, and the byte `end` after the last.
 #[tactic(auto, using(crate::proofs::Laws::fields_length))]
-fn put_fields(out: &mut [u8], cells: &[Option<usize>], end: u8) -> usize
+pub fn put_fields(out: &mut [u8], cells: &[Option<usize>], end: u8) -> usize
     requires { length (fields cells.now end) ≤ length out.old }
     ensures { Wrote (fields cells.now end) result out.old out.new }
 {

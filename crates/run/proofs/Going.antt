@@ -11,20 +11,15 @@ use Rattle.words.specs.View.{view}
 use Rattle.listing.specs.Write.{Wrote}
 use Rattle.listing.specs.Record.{record_text}
 use Rattle.report.specs.Report.{record_of}
-use Rattle.schedule.specs.Parts.{lf, parts, count, IsCut}
+use Rattle.schedule.specs.Parts.{lf, count, IsCut}
 use Rattle.schedule.specs.Lines.{line_of}
-use Rattle.schedule.specs.Schedule.{steps_of}
 use Rattle.schedule.specs.declared.Line.TheVariants as L
 use Rattle.schedule.proofs.PartsLaws.{length_cut, count_cut}
 use Rattle.schedule.proofs.ScheduleLaws.{steps_at_step}
 use Rattle.run.specs.Listing.{records, refused_one}
-use Rattle.run.specs.Run.{RanAs}
+use Rattle.run.specs.Run.{steps_in, RanAs}
 use Rattle.run.specs.declared.Ran.{Ran}
 use Rattle.run.proofs.Records.{records-step, Makes, made-text, made-taken, made-refusals, makes-step}
-
--- the steps that are left in what is left of the schedule
-abbrev pub steps_in : List ℕ → List Step
-steps_in text = steps_of (parts lf text)
 
 -- before a line: `w` is written, there is room for each line to come, and the records to come make the whole
 pub record Going (text : List ℕ) (budget : ℕ) (t₀ out₀ t out rest : List ℕ) (ran : Ran) : Type 0 where

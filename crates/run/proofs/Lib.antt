@@ -3,4 +3,5 @@ pub mod Answered
 pub mod Records
 pub mod Going
 pub mod Whole
+pub mod Printed
 pub mod One

@@ -2,3 +2,4 @@
 pub mod Granting
 pub mod Rows
 pub mod Making
+pub mod Determined

@@ -1,2 +1,3 @@
--- What the engine's entry points promise.
+-- What the functions that the engine stands on promise.
 pub mod Post
+pub mod One

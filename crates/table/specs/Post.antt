@@ -1,4 +1,4 @@
--- What the engine's entry points promise, of the words at entry and at exit.
+-- What a fresh table and a step that is done leave in the words.
 use Rattle.std.specs.Prelude.{ℕ, ◌≡◌, true, false, List, replicate}
 use Rattle.lamport.specs.Table.{sizes_ok, sizes_answer, fresh}
 use Rattle.lamport.specs.Steps.{first}

@@ -6,6 +6,7 @@ ghost use Rattle.lamport.specs.Refusals.{outside, may_enter, full, any_full, no_
 ghost use Rattle.words.specs.View.{view};
 ghost use Rattle.words.specs.WellFormed.{well_formed};
 ghost use Rattle.table.specs.Post.{stored, Made};
+ghost use Rattle.table.specs.One.{OneFresh};
 
 mod attempt;
 
@@ -130,3 +131,8 @@ pub fn fresh(words: &mut Words, setup: Setup) -> Result<(), Refusal>
     store::start(words, setup.benches as usize, setup.start);
     Ok(())
 }
+
+// Two outcomes that meet the promise of `fresh` are the same: this does nothing, and has that theorem for its own.
+pub fn one_fresh()
+    ensures { OneFresh }
+{}

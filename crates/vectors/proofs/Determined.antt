@@ -15,15 +15,11 @@ use Rattle.vectors.specs.Rows.{row, slot_row, slot_counts, counts, brought}
 use Rattle.vectors.specs.Formed.{counts_ok}
 use Rattle.vectors.proofs.Row.{listed_get, counts_at}
 use Rattle.vectors.proofs.Channels.{brought-at}
-use Rattle.vectors.proofs.Zero.{ZeroFrom, zero-out, Good, good-out, all-zero}
+use Rattle.vectors.proofs.Zero.{zero-out, zero-same, Good, good-out}
 
 -- rows of eight that read the same
 row-ext : (x y : List ℕ) → length x ≡ 8 → length y ≡ 8 → counts_in x ≡ counts_in y → x ≡ y
 row-ext x y l k e = ext_get_or 0 x y (l ∙ sym k) (λ a h. ap (λ (f : ℕ → ℕ). f a) e)
-
--- rows without counts
-zero-same : (x y : List ℕ) → ZeroFrom 0 x → ZeroFrom 0 y → x ≡ y
-zero-same x y z v = ext_get_or 0 x y (z.long ∙ sym v.long) (λ a h. all-zero 0 x z a (omega arith) ∙ sym (all-zero 0 y v a (omega arith)))
 
 module _ (t : List ℕ) (r u : List (List ℕ)) (ok : counts_ok t r ≡ true) (ok' : counts_ok t u ≡ true) (e : counts r ≡ counts u) (f : brought t r ≡ brought t u) where
   g : Good t r

@@ -2,14 +2,18 @@
 use Prim.Native.Nat.{ℕ, ◌<◌, ◌≤◌}
 use native.Mathlib.Omega.{arith}
 use native.Mathlib.Decide.{dec_lt}
-use mathlib.Core.Path.{◌≡◌, sym, ◌∙◌, fun_ext}
+use mathlib.Core.Path.{◌≡◌, refl, sym, ◌∙◌, fun_ext}
 use mathlib.Core.Logic.{◌≢◌}
-use mathlib.Core.Bool.{true, cond, ◌||◌}
+use mathlib.Core.Bool.{Bool, true, false, cond, ◌||◌}
 use mathlib.Core.List.{List}
 use lib.Dec.{ltb, eqb}
+use lib.Pointwise.{pointwise}
+use lib.Seq.{ext_get_or}
 use lib.ListN.{length, length-replicate, get_or-replicate}
 use borrow.Author.Tests.{lt-ltb, le-ltb, eq-eqb, ne_eqb, eqb-true}
+use Rattle.std.proofs.Common.{nat_eq}
 use Rattle.std.proofs.lemmas.List.{get_or_past}
+use Rattle.std.specs.Cmp.Lexicographic.{same_text, other_text}
 use Rattle.lamport.specs.Each.{all_below}
 use Rattle.lamport.specs.Vectors.{vc1, vc2, counts_in}
 use Rattle.lamport.proofs.Each.{and_left, and_right, and_in, or_in, or_out, all_at, all_all}
@@ -77,6 +81,19 @@ vc1-zero n p v h z a l = let ne : a ≢ p = omega arith in rw (ne_eqb a p ne) (z
 
 pub vc2-zero : (n q : ℕ) (v w : ℕ → ℕ) → q < n → ((a : ℕ) → n ≤ a → v a ≡ 0) → ((a : ℕ) → n ≤ a → w a ≡ 0) → (a : ℕ) → n ≤ a → vc2 q v w a ≡ 0
 vc2-zero n q v w h y z a l = let ne : a ≢ q = omega arith in rw (ne_eqb a q ne) (omega (arith, y a l, z a l))
+
+-- rows without counts are the same
+pub zero-same : (x y : List ℕ) → ZeroFrom 0 x → ZeroFrom 0 y → x ≡ y
+zero-same x y z v = ext_get_or 0 x y (z.long ∙ sym v.long) (λ a h. all-zero 0 x z a (omega arith) ∙ sym (all-zero 0 y v a (omega arith)))
+
+-- a row is tested for zeros at once
+pub is-zeros : (x : List ℕ) (b : Bool) → b ≡ pointwise nat_eq x zeros → b ≡ zero_from 0 x
+is-zeros x true e = sym (zero-in 0 x (rw (same_text x zeros e) (zero-zeros 0)))
+is-zeros x false e = go (zero_from 0 x) refl
+  where
+    go : (b : Bool) → zero_from 0 x ≡ b → false ≡ zero_from 0 x
+    go true z = absurd (other_text x zeros e (zero-same x zeros (zero-out 0 x z) (zero-zeros 0)))
+    go false z = sym z
 
 -- ---- all rows
 

@@ -184,6 +184,13 @@ fn zero_from(v: &Stamp, n: usize) -> bool
     (0..MOST).all(|a| a < n || v[a] == 0)
 }
 
+// Whether all counts of a row are zero.
+fn is_zero(v: &Stamp) -> bool
+    ensures { result ≡ zero_from 0 v.now }
+{
+    *v == [0; MOST]
+}
+
 // The row of p: an absent bench has counted nothing.
 #[tactic(auto, using(crate::proofs::Formed::own_present, crate::proofs::Formed::own_absent))]
 fn own_ok(t: &Words, rows: &Rows, p: Bench) -> bool
@@ -193,7 +200,7 @@ fn own_ok(t: &Words, rows: &Rows, p: Bench) -> bool
     if p.number < n {
         return zero_from(&rows[p.number], n);
     }
-    zero_from(&rows[p.number], 0)
+    is_zero(&rows[p.number])
 }
 
 fn owns_ok(t: &Words, rows: &Rows) -> bool
@@ -212,7 +219,7 @@ fn slot_ok(t: &Words, rows: &Rows, c: Channel, i: usize) -> bool
     if i < channel_count(t, c) as usize {
         return zero_from(slot, benches(t));
     }
-    zero_from(slot, 0)
+    is_zero(slot)
 }
 
 fn slots_ok(t: &Words, rows: &Rows, c: Channel) -> bool

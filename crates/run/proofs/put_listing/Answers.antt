@@ -6,7 +6,7 @@ use Rattle.schedule.proofs.PartsLaws.{count-short}
 use Rattle.schedule.specs.Parts.{lf}
 use Rattle.run.specs.Listing.{lines, listing, records}
 use Rattle.words.specs.View.{view}
-use Rattle.run.proofs.Going.{steps_in}
+use Rattle.run.specs.Run.{steps_in}
 use Rattle.run.proofs.put_listing.Goals as goal
 
 pub put_end-requires : goal.put_end-requires

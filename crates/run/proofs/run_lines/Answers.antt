@@ -12,9 +12,9 @@ use Rattle.schedule.proofs.PartsLaws.{count_cut}
 use Rattle.schedule.proofs.ScheduleLaws.{steps_uncut, stepping}
 use Rattle.run.specs.Listing.{records}
 use Rattle.run.proofs.Records.{records-end, records-over, makes-start}
-use Rattle.run.specs.Run.{RanAs}
+use Rattle.run.specs.Run.{steps_in, RanAs}
 use Rattle.run.specs.declared.Ran.{Ran}
-use Rattle.run.proofs.Going.{steps_in, Going, ended, go_on}
+use Rattle.run.proofs.Going.{Going, ended, go_on}
 use Rattle.run.proofs.run_lines.Goals as goal
 
 -- where no step is left, the run is as it should be

@@ -1,10 +1,21 @@
-use Rattle.std.proofs.Common.{arith}
+use Rattle.std.proofs.Common.{◌≡◌, ℕ, List, take, ap, arith}
 use Rattle.input.proofs.Told.{told}
 use Rattle.listing.proofs.Laws.{written-front}
-use Rattle.turns.specs.Shown.{printed}
+use Rattle.run.proofs.Whole.{same_front}
+use Rattle.run.proofs.Printed.{answered_within}
+use Rattle.run.specs.Run.{line_room, shown}
+use Rattle.turns.specs.Shown.{room, printed}
 use Rattle.turns.specs.declared.TheConstants.{INPUT}
-use Rattle.turns.proofs.Reading.{front_printed}
 use Rattle.turns.proofs.run_all.Goals as goal
 
+pub put_answer-bytes-requires-clause-done : goal.put_answer-bytes-requires-clause-done
+put_answer-bytes-requires-clause-done g c = answered_within _ c.run-answer.ensures
+
+-- a byte more than the longest schedule is enough
+front_printed : (input : List ℕ) → printed (take INPUT input) ≡ printed input
+front_printed input = ap shown (same_front line_room _ input INPUT room (omega arith))
+
 pub returns : goal.returns
-returns g c = told INPUT printed (front_printed INPUT (omega arith)) (written-front c.show-bytes.ensures.text) c.write_all.result _ _ _ c.write_all.ensures.bytes c.in_ok-n.ensures.front
+returns g c =
+    let wrote = c.put_answer-bytes.ensures.text _ _ c.run-answer.ensures in
+    told INPUT printed front_printed (written-front wrote) c.write_all.result _ _ _ c.write_all.ensures.bytes c.in_ok-n.ensures.front

@@ -1,3 +1,0 @@
--- Laws that the proofs share.
-pub mod Printed
-pub mod Reading
