@@ -20,8 +20,8 @@ use Rattle.words.specs.View.{listed}
 use Rattle.words.proofs.Listed.{listed_cons}
 use Rattle.vectors.specs.Rows.{row, slot_row, slot_counts, row_of, zeros, counts, brought}
 use Rattle.vectors.specs.Formed.{slot_ok}
-use Rattle.vectors.specs.Stores.{ticked, merged, lent, taken_off, answered}
-use Rattle.vectors.proofs.Laws.{ticked-length, ticked-here, ticked-else, merged-length, merged-here, merged-else, lent-length, lent-here, lent-else, taken-length, taken-here, taken-last, taken-else}
+use Rattle.vectors.specs.Stores.{ticked, merged, attached, taken_off, answered}
+use Rattle.vectors.proofs.Laws.{ticked-length, ticked-here, ticked-else, merged-length, merged-here, merged-else, attached-length, attached-here, attached-else, taken-length, taken-here, taken-last, taken-else}
 use Rattle.vectors.proofs.Channels.{SameSlot, list-same, list-joined, list-taken, brought-at, nothing-left, nothing-right, brought-is}
 use Rattle.vectors.proofs.Zero.{ZeroFrom, reads-row, zero-row, zero-zeros, all-zero, vc1-zero, vc2-zero, Good, own-row, used-row, still, in-use, unused, unused-row}
 use Rattle.vectors.proofs.Stored.{counts-changed, read-counts, own-kept}
@@ -131,16 +131,16 @@ module _ (t t' : List ℕ) (r : List (List ℕ)) (g : Good t r) (n8 : benches t 
   x-rows K e no-reply =
       record { long = x-long; own = rw e x-own; bench = x-bench-else; slot = λ f i h l z. refl; joined = λ z. absurd (no-reply z) }
 
-  answered-rows : count t d < 16 → Rows Request (lent (ticked x q) q d (count t d))
+  answered-rows : count t d < 16 → Rows Request (attached (ticked x q) q d (count t d))
   answered-rows room =
       record {
-        long = lent-length (ticked x q) q d (count t d) ∙ ticked-length x q ∙ x-long;
-        own = lent-else (ticked x q) q d (count t d) q (omega (arith, q8)) ∙ ticked-own;
-        bench = λ a l o. lent-else (ticked x q) q d (count t d) a (omega (arith, l)) ∙ ticked-else x q a o ∙ x-bench-else a l o;
+        long = attached-length (ticked x q) q d (count t d) ∙ ticked-length x q ∙ x-long;
+        own = attached-else (ticked x q) q d (count t d) q (omega (arith, q8)) ∙ ticked-own;
+        bench = λ a l o. attached-else (ticked x q) q d (count t d) a (omega (arith, l)) ∙ ticked-else x q a o ∙ x-bench-else a l o;
         slot =
             λ e i he hi z.
-            lent-else (ticked x q) q d (count t d) (slot_row e i) (λ same. clash e i hi (z refl) same) ∙ ticked-else x q (slot_row e i) (omega (arith, q8));
-        joined = λ z. lent-here (ticked x q) q d (count t d) (omega (arith, ticked-length x q, x-long, room, d8)) ∙ ticked-own;
+            attached-else (ticked x q) q d (count t d) (slot_row e i) (λ same. clash e i hi (z refl) same) ∙ ticked-else x q (slot_row e i) (omega (arith, q8));
+        joined = λ z. attached-here (ticked x q) q d (count t d) (omega (arith, ticked-length x q, x-long, room, d8)) ∙ ticked-own;
       }
     where
       d8 : d < 64

@@ -17,7 +17,7 @@ use Rattle.lamport.specs.Counted.{counts_then}
 use Rattle.words.specs.Places.{chan, count}
 use Rattle.words.specs.View.{view}
 use Rattle.vectors.specs.Rows.{row, slot_row, counts, brought, counted}
-use Rattle.vectors.specs.Stores.{ticked, merged, lent_to, taken_off, answered, carried_counts}
+use Rattle.vectors.specs.Stores.{ticked, merged, attached_to, taken_off, answered, carried_counts}
 use Rattle.vectors.proofs.Row.{listed_get, counts_at}
 use Rattle.vectors.proofs.Laws.{merged-here, taken-else}
 
@@ -53,8 +53,8 @@ module _ (t : List ℕ) (r : List (List ℕ)) (p q c k : ℕ) (m x : List (List 
   unfolding carried_counts
   carried-as z a = rw (f, e, n, d, g) at a
 
-  pub carried-request : (y z : List (List ℕ)) → o.kind ≡ Request → y ≡ ticked x q → z ≡ lent_to t q p y → z ≡ carried_counts t r p q
-  unfolding answered lent_to
+  pub carried-request : (y z : List (List ℕ)) → o.kind ≡ Request → y ≡ ticked x q → z ≡ attached_to t q p y → z ≡ carried_counts t r p q
+  unfolding answered attached_to
   carried-request y z is h l = carried-as z (rw (is) (l ∙ rw (ne_eqb p q ne, h) refl))
 
   pub carried-other : (o.kind ≡ Ack) ⊎ (o.kind ≡ Release) → x ≡ carried_counts t r p q

@@ -10,7 +10,7 @@ use lib.Seq.{get_or-set_same, get_or-set_other}
 use Rattle.lamport.specs.Each.{up_to}
 use Rattle.lamport.specs.Vectors.{vc1, vc2, counts_in}
 use Rattle.vectors.specs.Rows.{row, slot_row, row_of, zeros}
-use Rattle.vectors.specs.Stores.{ticked, merged, lent, moved_row, taken_off}
+use Rattle.vectors.specs.Stores.{ticked, merged, attached, moved_row, taken_off}
 
 -- ---- one row stored
 
@@ -47,17 +47,17 @@ module _ (r : List (List ℕ)) (q c : ℕ) where
   merged-else i ne = row-other r q _ i ne
 
 module _ (r : List (List ℕ)) (p c i : ℕ) where
-  pub lent-length : length (lent r p c i) ≡ length r
-  unfolding lent
-  lent-length = length-set r (slot_row c i) _
+  pub attached-length : length (attached r p c i) ≡ length r
+  unfolding attached
+  attached-length = length-set r (slot_row c i) _
 
-  pub lent-here : slot_row c i < length r → row (lent r p c i) (slot_row c i) ≡ row r p
-  unfolding lent
-  lent-here h = row-set r (slot_row c i) _ h
+  pub attached-here : slot_row c i < length r → row (attached r p c i) (slot_row c i) ≡ row r p
+  unfolding attached
+  attached-here h = row-set r (slot_row c i) _ h
 
-  pub lent-else : (j : ℕ) → j ≢ slot_row c i → row (lent r p c i) j ≡ row r j
-  unfolding lent
-  lent-else j ne = row-other r (slot_row c i) _ j ne
+  pub attached-else : (j : ℕ) → j ≢ slot_row c i → row (attached r p c i) j ≡ row r j
+  unfolding attached
+  attached-else j ne = row-other r (slot_row c i) _ j ne
 
 -- ---- the rows of a channel move up
 

@@ -20,16 +20,16 @@ unfoldable pub merged : List (List ℕ) → ℕ → ℕ → List (List ℕ)
 merged r q c = set r q (row_of (vc2 q (counts_in (row r q)) (counts_in (row r (slot_row c 0)))))
 
 -- the message in slot i of channel c brings bench p's counts
-unfoldable pub lent : List (List ℕ) → ℕ → ℕ → ℕ → List (List ℕ)
-lent r p c i = set r (slot_row c i) (row r p)
+unfoldable pub attached : List (List ℕ) → ℕ → ℕ → ℕ → List (List ℕ)
+attached r p c i = set r (slot_row c i) (row r p)
 
 -- the message that joins p's channel to q brings p's counts, unless these are the same bench; t are the table's words before the step
-unfoldable pub lent_to : List ℕ → ℕ → ℕ → List (List ℕ) → List (List ℕ)
-lent_to t p q r = cond (eqb q p) r (lent r p (chan p q) (count t (chan p q)))
+unfoldable pub attached_to : List ℕ → ℕ → ℕ → List (List ℕ) → List (List ℕ)
+attached_to t p q r = cond (eqb q p) r (attached r p (chan p q) (count t (chan p q)))
 
 -- p's counts go with a message to every other bench
 unfoldable pub sent_counts : List ℕ → List (List ℕ) → ℕ → List (List ℕ)
-sent_counts t r p = up_to (lent_to t p) (benches t) (ticked r p)
+sent_counts t r p = up_to (attached_to t p) (benches t) (ticked r p)
 
 -- slot i of channel c takes what stands in the slot behind it
 unfoldable pub moved_row : ℕ → ℕ → List (List ℕ) → List (List ℕ)
@@ -41,7 +41,7 @@ taken_off r c k = set (up_to (moved_row c) (k - 1) r) (slot_row c (k - 1)) zeros
 
 -- a request is acknowledged, which is an event of its own
 unfoldable pub answered : List ℕ → List (List ℕ) → ℕ → ℕ → Kind → List (List ℕ)
-answered t r p q Request = lent (ticked r q) q (chan q p) (count t (chan q p))
+answered t r p q Request = attached (ticked r q) q (chan q p) (count t (chan q p))
 answered t r p q Ack = r
 answered t r p q Release = r
 

@@ -11,7 +11,7 @@ ghost use Rattle.words.specs.Places.{most, slots, chan, count as count_of};
 ghost use Rattle.store.specs.Stores.{Room, Carries};
 ghost use Rattle.vectors.specs.Rows.{row, row_of, counts, counted};
 ghost use Rattle.vectors.specs.Formed.{zero_from, own_ok, slot_ok, slots_ok, counts_ok};
-ghost use Rattle.vectors.specs.Stores.{ticked, merged, lent, lent_to, sent_counts, moved_row, taken_off, answered, carried_counts};
+ghost use Rattle.vectors.specs.Stores.{ticked, merged, attached, attached_to, sent_counts, moved_row, taken_off, answered, carried_counts};
 
 use lamport::{Kind, larger};
 use stamps::{MOST, Stamp};
@@ -89,23 +89,23 @@ pub fn tick(rows: &mut Rows, p: Bench)
 // ---- messages are sent
 
 // The message in slot i of channel c brings p's counts.
-#[tactic(auto, unfolding(crate::specs::Stores::lent))]
-fn lend(rows: &mut Rows, p: Bench, c: Channel, i: usize)
+#[tactic(auto, unfolding(crate::specs::Stores::attached))]
+fn attach(rows: &mut Rows, p: Bench, c: Channel, i: usize)
     requires { i < slots }
-    ensures { rows.new ≡ lent rows.old p.number c.number i }
+    ensures { rows.new ≡ attached rows.old p.number c.number i }
 {
     rows[FIRST_SLOT + c.number * SLOTS + i] = rows[p.number];
 }
 
 // The message that is to join p's channel to q brings p's counts.
-#[tactic(auto, unfolding(crate::specs::Stores::lent_to))]
-fn lend_to(t: &Words, rows: &mut Rows, p: Bench, q: Bench)
+#[tactic(auto, unfolding(crate::specs::Stores::attached_to))]
+fn attach_to(t: &Words, rows: &mut Rows, p: Bench, q: Bench)
     requires room { (q.number ≡ p.number → ⊥) → count_of t.now (chan p.number q.number) < slots }
-    ensures { rows.new ≡ lent_to t.now p.number q.number rows.old }
+    ensures { rows.new ≡ attached_to t.now p.number q.number rows.old }
 {
     if q != p {
         let c = Channel::between(p, q);
-        lend(rows, p, c, channel_count(t, c) as usize);
+        attach(rows, p, c, channel_count(t, c) as usize);
     }
 }
 
@@ -117,7 +117,7 @@ pub fn send(t: &Words, rows: &mut Rows, p: Bench)
 {
     tick(rows, p);
     for q in 0..benches(t) {
-        lend_to(t, rows, p, Bench::new(q));
+        attach_to(t, rows, p, Bench::new(q));
     }
 }
 
@@ -169,7 +169,7 @@ pub fn carry(t: &Words, rows: &mut Rows, p: Bench, q: Bench)
         // The acknowledgement is an event of its own, and brings the counts after both.
         Kind::Request => {
             tick(rows, q);
-            lend_to(t, rows, q, p);
+            attach_to(t, rows, q, p);
         }
         Kind::Ack | Kind::Release => {}
     }

@@ -16,13 +16,13 @@ tick-requires c =
           (rw (c.channel_count.ensures, c.between-c.ensures) (takes-some c.requires.carries)) c.merge.ensures c.take_off.ensures c.oldest.ensures c.in-Request.is;
     }
 
-pub lend_to-requires : goal.lend_to-requires
-lend_to-requires c = record { room = λ ne. takes-room c.requires.carries c.oldest.result c.oldest.ensures c.in-Request.is }
+pub attach_to-requires : goal.attach_to-requires
+attach_to-requires c = record { room = λ ne. takes-room c.requires.carries c.oldest.result c.oldest.ensures c.in-Request.is }
 
 pub returns-in-Request : goal.returns-in-Request
 returns-in-Request c =
     carried-request c.args.t.now c.args.rows.now c.args.p.number c.args.q.number _ _ _ _ c.oldest.result c.requires.carries.apart
-    c.between-c.ensures c.channel_count.ensures c.merge.ensures c.take_off.ensures c.oldest.ensures _ _ c.in-Request.is c.tick.ensures c.lend_to.ensures
+    c.between-c.ensures c.channel_count.ensures c.merge.ensures c.take_off.ensures c.oldest.ensures _ _ c.in-Request.is c.tick.ensures c.attach_to.ensures
 
 pub returns-in-Ack : goal.returns-in-Ack
 returns-in-Ack c =

@@ -1,7 +1,7 @@
 use Rattle.std.proofs.Common.{◌≡◌, sym, ap, ◌∙◌, arith}
 use Rattle.words.specs.Places.{benches}
 use Rattle.lamport.proofs.Each.{up_none, up_more, up-end}
-use Rattle.vectors.specs.Stores.{lent_to, sent_counts}
+use Rattle.vectors.specs.Stores.{attached_to, sent_counts}
 use Rattle.vectors.proofs.Formed.{benches-read}
 use Rattle.vectors.proofs.send.Goals as goal
 
@@ -11,8 +11,8 @@ loop-q-init c = sym (up_none _ _)
 pub new-requires : goal.new-requires
 new-requires c = omega (arith, c.requires.room.few, benches-read c.args.t.now, c.benches-q-end.ensures, c.loop-q-test.true)
 
-pub lend_to-requires : goal.lend_to-requires
-lend_to-requires c =
+pub attach_to-requires : goal.attach_to-requires
+attach_to-requires c =
     record {
       room =
           λ ne. rw c.new.ensures
@@ -21,7 +21,7 @@ lend_to-requires c =
 
 pub loop-q-preserved : goal.loop-q-preserved
 loop-q-preserved c =
-    rw c.new.ensures at c.lend_to.ensures ∙ ap (lent_to _ _ c.loop-q.q) c.loop-q.invariant ∙ sym (up_more _ c.loop-q.q _)
+    rw c.new.ensures at c.attach_to.ensures ∙ ap (attached_to _ _ c.loop-q.q) c.loop-q.invariant ∙ sym (up_more _ c.loop-q.q _)
 
 pub returns : goal.returns
 unfolding sent_counts
