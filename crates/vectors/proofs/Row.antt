@@ -70,9 +70,9 @@ merging-more v w x a m h k e =
     go b l (no nd) = get_or-set_other x a b m 0 nd ∙ k.done b (omega arith)
 
 -- the own count only goes up by one
-pub merging-end : (v w x : List ℕ) (q : ℕ) → length v ≡ 8 → q < 8 → Merging v w 8 x → set x q (get_or v q 0 + 1) ≡ row_of (vc2 q (counts_in v) (counts_in w))
-merging-end v w x q e h k = is_row _ _ (length-set x q _ ∙ k.long ∙ e) (λ a l. go a l (ℕ_discrete a q))
+pub merging-end : (v w x : List ℕ) (q m : ℕ) → length v ≡ 8 → q < 8 → Merging v w 8 x → m ≡ get_or v q 0 + 1 → set x q m ≡ row_of (vc2 q (counts_in v) (counts_in w))
+merging-end v w x q m e h k up = is_row _ _ (length-set x q _ ∙ k.long ∙ e) (λ a l. go a l (ℕ_discrete a q))
   where
-    go : (a : ℕ) → a < 8 → Dec (a ≡ q) → get_or (set x q (get_or v q 0 + 1)) a 0 ≡ vc2 q (counts_in v) (counts_in w) a
-    go a l (yes d) = rw (d, eq-eqb q q refl) (get_or-set_same x q _ 0 (omega (arith, k.long, e)))
+    go : (a : ℕ) → a < 8 → Dec (a ≡ q) → get_or (set x q m) a 0 ≡ vc2 q (counts_in v) (counts_in w) a
+    go a l (yes d) = rw (d, eq-eqb q q refl) (get_or-set_same x q _ 0 (omega (arith, k.long, e)) ∙ up)
     go a l (no nd) = rw (ne_eqb a q nd) (get_or-set_other x q a _ 0 nd ∙ k.done a l)

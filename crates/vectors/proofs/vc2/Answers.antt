@@ -12,4 +12,4 @@ loop-a-preserved c =
 pub returns : goal.returns
 returns c =
     let all : c.loop-a.a ≡ 8 = omega arith in
-    merging-end _ _ _ _ c.told-v c.args.q.low (rw all at c.loop-a.invariant)
+    merging-end _ _ _ _ _ c.told-v c.args.q.low (rw all at c.loop-a.invariant) (omega arith)
