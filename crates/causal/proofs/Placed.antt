@@ -12,7 +12,7 @@ use Rattle.lamport.specs.Counted.{Counted, counts_then, counted_answer, counted_
 use Rattle.causal.specs.Events.{alone, stamped, events_of, events}
 use Rattle.causal.specs.Told.{ReadingPlaced}
 
-events-append : (s : Counted) (ks ls : List Step) → events s (ks ++ ls) ≡ events s ks ++ events (counted_after s ks) ls
+pub events-append : (s : Counted) (ks ls : List Step) → events s (ks ++ ls) ≡ events s ks ++ events (counted_after s ks) ls
 events-append s [] ls = refl
 events-append s (k ∷ ks) ls =
     ap (λ es. cond (eqb (counted_answer s k) 0) (events_of s k) [] ++ es) (events-append (counted_next s k) ks ls)

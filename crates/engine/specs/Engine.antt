@@ -1,5 +1,5 @@
 -- The engine over a list of steps: any answers and tables that the contracts of `fresh` and `step` allow.
-use Rattle.std.specs.Prelude.{ℕ, ◌<◌, ◌≤◌, ◌≡◌, ◌↔◌, true, List, [], ◌∷◌, Some}
+use Rattle.std.specs.Prelude.{ℕ, ◌<◌, ◌≤◌, ◌≡◌, ◌↔◌, true, List, [], ◌∷◌, ◌++◌, length, Some}
 use Rattle.lamport.specs.Order.{limit}
 use Rattle.lamport.specs.Table.{holding, most_benches, sizes_ok, fresh}
 use Rattle.lamport.specs.Refusals.{answers, after}
@@ -9,6 +9,11 @@ use Rattle.lamport.specs.Counted.{counted_fresh, counts_then, counted_answers, c
 use Rattle.lamport.specs.declared.Step.{Step}
 use Rattle.lamport.specs.declared.Step.TheVariants.{Mark}
 use Rattle.words.specs.View.{view}
+use Rattle.stamps.specs.Compare.{comparison}
+use Rattle.stamps.specs.declared.Comparison.{Comparison}
+use Rattle.stamps.specs.declared.Comparison.TheVariants.{Before, After, Neither}
+use Rattle.causal.specs.Events.{Stamped, events}
+use Rattle.causal.specs.Told.{Precedes}
 use Rattle.ahead.specs.Ahead.{Ahead}
 use Rattle.counted.specs.declared.Lent.{Lent}
 use Rattle.counted.specs.Post.{read, lent_ok, Stepped, Made, Handed}
@@ -64,3 +69,20 @@ StampKept =
     (n capacity start : ℕ) (t u v : Lent) (told before row : List ℕ) (ks : List Step) (p : ℕ) → sizes_ok n capacity ≡ true → Made n capacity start 0 t → Taken t ks told u →
     Stepped u (Mark p) 0 v → Handed v p 0 before row → (a : ℕ) → a < most_benches →
     counts_in row a ≡ counts_then (counted_after (counted_fresh n capacity start) ks) (Mark p) a
+
+-- what the comparison says of the events i and j is what happened
+pub record Tells (n : ℕ) (es : List Stamped) (i j : ℕ) (c : Comparison) : Type 0 where
+  pub before : (c ≡ Before) ↔ Precedes n es i j
+  pub after : (c ≡ After) ↔ Precedes n es j i
+  pub neither : (c ≡ Neither) ↔ ((¬ Precedes n es i j) × (¬ Precedes n es j i))
+
+-- bench p marks a reading after the steps ks, bench q another after further steps ls, and the counts of each are handed out behind its mark:
+-- their comparison tells which of the two events could have influenced the other
+abbrev pub ReadingsTold : Type 0
+ReadingsTold =
+    (n capacity start : ℕ) (t u v x y : Lent) (told told' before row before' row' : List ℕ) (ks ls : List Step) (p q : ℕ) → sizes_ok n capacity ≡ true → Made n capacity start 0 t →
+    Taken t ks told u → Stepped u (Mark p) 0 v → Handed v p 0 before row →
+    Taken v ls told' x → Stepped x (Mark q) 0 y → Handed y q 0 before' row' →
+    Tells n (events (counted_fresh n capacity start) (ks ++ Mark p ∷ (ls ++ Mark q ∷ [])))
+    (length (events (counted_fresh n capacity start) ks)) (length (events (counted_fresh n capacity start) (ks ++ Mark p ∷ ls)))
+    (comparison (counts_in row) (counts_in row'))

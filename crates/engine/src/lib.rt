@@ -2,7 +2,7 @@
 #![tactic(auto)]
 
 ghost use Rattle.lamport.specs.Starred.{starred};
-ghost use Rattle.engine.specs.Engine.{StepsFollow, EngineDemanded, OneHolds, Answered, HolderTold, StampKept};
+ghost use Rattle.engine.specs.Engine.{StepsFollow, EngineDemanded, OneHolds, Answered, HolderTold, StampKept, ReadingsTold};
 
 // The answers and tables of any steps are the rules' answers and tables.
 pub fn steps_follow()
@@ -32,4 +32,9 @@ pub fn starred_answered()
 // The counts that are handed out after a `mark` are those of that event.
 pub fn stamp_kept()
     ensures { StampKept }
+{}
+
+// So the comparison of two readings' stamps tells which of them could have influenced the other.
+pub fn readings_told()
+    ensures { ReadingsTold }
 {}
