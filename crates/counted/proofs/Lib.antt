@@ -1,4 +1,5 @@
 -- Laws that the proofs share, here and in the crates above.
+pub mod Own
 pub mod Lengths
 pub mod Counting
 pub mod Stepping

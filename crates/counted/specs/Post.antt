@@ -1,9 +1,7 @@
 -- What the entry points promise, of the table lent at entry and at exit.
-use Rattle.std.specs.Prelude.{ℕ, ◌+◌, ◌≡◌, true, false, Bool, cond, ◌&&◌, List, replicate, leb, eqb}
+use Rattle.std.specs.Prelude.{ℕ, ◌≡◌, true, false, Bool, cond, ◌&&◌, List, replicate, leb, eqb}
 use Rattle.lamport.specs.Table.{sizes_ok, sizes_answer}
 use Rattle.lamport.specs.Counted.{Counted, counted_fresh, counted_answer, counted_next}
-use Rattle.lamport.specs.declared.Kind.{Kind}
-use Rattle.lamport.specs.declared.Kind.TheVariants.{Request, Ack, Release}
 use Rattle.lamport.specs.declared.Step.{Step}
 use Rattle.words.specs.Places.{size}
 use Rattle.words.specs.WellFormed.{well_formed}
@@ -52,11 +50,3 @@ counts_answer t p = cond (lent_ok t) (cond (leb (read t).table.benches p) 2 0) 1
 pub record Handed (t : Lent) (p r : ℕ) (before after : List ℕ) : Type 0 where
   pub answered : r ≡ counts_answer t p
   pub written : after ≡ cond (eqb r 0) (row_of ((read t).counts p)) before
-
--- ---- what an inner function promises
-
--- the receiver's own count after a message of this kind, where it was x: once more for each event
-abbrev pub raised : Kind → ℕ → ℕ
-raised Request x = x + 1 + 1
-raised Ack x = x + 1
-raised Release x = x + 1

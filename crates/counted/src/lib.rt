@@ -1,16 +1,17 @@
 // The engine: make a fresh table, take a step on it, and hand out a bench's counts, in the words that the caller lends.
 #![tactic(auto)]
 
-ghost use Rattle.std.specs.Prelude.{◌≡◌, ◌≤◌, true};
+ghost use Rattle.std.specs.Prelude.{ℕ, ◌≡◌, ◌≤◌, true};
 ghost use Rattle.lamport.specs.Order.{limit};
 ghost use Rattle.lamport.specs.Counted.{counts_then};
+ghost use Rattle.lamport.specs.Vectors.{counts_after};
 ghost use Rattle.lamport.specs.Refusals.{answer, answer_number};
 ghost use Rattle.lamport.specs.Steps.{actor as actor_of};
 ghost use Rattle.words.specs.View.{view};
 ghost use Rattle.words.specs.WellFormed.{well_formed};
 ghost use Rattle.vectors.specs.Rows.{counted};
 ghost use Rattle.vectors.specs.Stores.{stored_counts};
-ghost use Rattle.counted.specs.Post.{lent_ok, Stepped, Made, Handed, raised};
+ghost use Rattle.counted.specs.Post.{lent_ok, Stepped, Made, Handed};
 ghost use Rattle.counted.specs.One.{OneOutcome, OneFresh, OneStamp, ZeroIsNone};
 
 use lamport::{Kind, Refusal, Setup, Step, actor, wide};
@@ -34,9 +35,10 @@ pub struct Lent {
 
 // ---- 8 by a count
 
-// A bench's own count after a message: a request's acknowledgement is a second event.
+// The receiver's own count after a message, whatever the others are: a request's acknowledgement is a second event.
+#[tactic(auto, using(crate::proofs::Own::once, crate::proofs::Own::twice))]
 fn raised(own: u32, kind: Kind) -> usize
-    ensures { result ≡ raised kind own }
+    ensures { (q : ℕ) (v w : ℕ → ℕ) → v q ≡ own → result ≡ counts_after kind q v w q }
 {
     let received = wide(own) + 1;
     match kind {

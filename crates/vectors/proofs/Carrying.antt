@@ -27,8 +27,12 @@ raised Request q v w = rw (eq-eqb q q refl) (omega arith)
 raised Ack q v w = rw (eq-eqb q q refl) (omega arith)
 raised Release q v w = rw (eq-eqb q q refl) (omega arith)
 
-raised-twice : (k : Kind) (q : ℕ) (v w : ℕ → ℕ) → k ≡ Request → counts_after k q v w q ≡ v q + 1 + 1
+pub raised-twice : (k : Kind) (q : ℕ) (v w : ℕ → ℕ) → k ≡ Request → counts_after k q v w q ≡ v q + 1 + 1
 raised-twice k q v w e = rw (e, eq-eqb q q refl) refl
+
+pub raised-once : (k : Kind) (q : ℕ) (v w : ℕ → ℕ) → (k ≡ Ack) ⊎ (k ≡ Release) → counts_after k q v w q ≡ v q + 1
+raised-once k q v w (inl e) = rw (e, eq-eqb q q refl) refl
+raised-once k q v w (inr e) = rw (e, eq-eqb q q refl) refl
 
 module _ (t : List ℕ) (r : List (List ℕ)) (p q : ℕ) (hq : q < 8) (fits : counts_then (counted t r) (Carry p q) q ≤ limit) where
   pub own-fits : counts_in (row r q) q < limit
